@@ -1,0 +1,12 @@
+-- The laws that the proofs of this crate cite, and the theorems on what its definitions mean. Assumes nothing.
+pub mod Numbers
+pub mod Bounds
+pub mod Places
+pub mod SupplyCurve
+pub mod DemandCurve
+pub mod RowLaws
+pub mod TableLaws
+pub mod Walk
+pub mod Budgets
+pub mod BestShare
+pub mod ReplyLaws

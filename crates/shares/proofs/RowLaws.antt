@@ -1,0 +1,127 @@
+-- The rows of specs/Rows.antt at the place that a loop looks at, and what lists are like that no row refuses.
+-- Assumes nothing.
+use Prim.Native.Nat.{ℕ, zero, suc, _+_, _-_, _≤_, _<_}
+use mathlib.Core.Path.{_≡_, refl, ap, sym, _∙_}
+use mathlib.Core.Bool.{Bool, true, false, cond, not, _&&_, _||_}
+use mathlib.Core.List.{List}
+use native.Mathlib.Omega.{arith}
+use lib.Dec.{ltb, leb, eqb}
+use borrow.Author.Tests.{lt-ltb, le-ltb, le-leb, lt-leb, eq-eqb, ne-eqb, leb-true, ltb-false, eqb-true, not-false}
+use lib.ListN.{length, getD}
+use Rattle.shares.specs.Search.{first}
+use Rattle.shares.specs.Rows.{within, inRange, miscounted, outOfRange, falls, tasksRow}
+use Rattle.shares.specs.Table.{Tasks}
+use Rattle.shares.proofs.Places.{NoneOf, or-right, clash, first-smallest}
+
+pub range-at : (ps es : List ℕ) (i : ℕ) → outOfRange ps es (i + 1) ≡ not (inRange (getD ps i 0) (getD es i 0))
+range-at ps es i = let e : i + 1 - 1 ≡ i = omega arith in rw e
+
+pub fall-at : (ps : List ℕ) (i : ℕ) → 1 ≤ i → falls ps (i + 1) ≡ ltb (getD ps i 0) (getD ps (i - 1) 0)
+fall-at ps i h =
+    let e : i + 1 - 1 ≡ i = omega arith in
+    let d : i + 1 - 2 ≡ i - 1 = omega arith in
+    let t : ltb 1 (i + 1) ≡ true = lt-ltb 1 (i + 1) (omega arith) in
+    rw t (rw e (rw d))
+
+-- the first task has none before it
+pub fall-none : (ps : List ℕ) → NoneOf (falls ps) 1
+fall-none ps s p l = let e : s ≡ 1 = omega arith in rw e
+
+-- the tests of rows 30 to 32, by which a list is refused or taken
+unfoldable late : List ℕ → List ℕ → ℕ
+late ps es = cond (ltb 0 (first (outOfRange ps es) (length ps))) 31 (cond (ltb 0 (first (falls ps) (length ps))) 32 0)
+
+by-count : (ps es : List ℕ) → tasksRow ps es ≡ cond (miscounted ps es) 30 (late ps es)
+unfolding tasksRow late
+by-count ps es = refl
+
+pub row-empty : (ps es : List ℕ) → length ps ≡ 0 → 30 ≡ tasksRow ps es
+row-empty ps es h =
+    let m : miscounted ps es ≡ true = rw h in
+    sym (by-count ps es ∙ rw m)
+
+pub row-many : (ps es : List ℕ) → 16 < length ps → 30 ≡ tasksRow ps es
+row-many ps es h =
+    let m : miscounted ps es ≡ true = rw (le-leb 1 (length ps) (omega arith)) (rw (lt-leb (length ps) 16 h)) in
+    sym (by-count ps es ∙ rw m)
+
+pub row-unpaired : (ps es : List ℕ) → (length ps ≡ length es → ⊥) → 30 ≡ tasksRow ps es
+row-unpaired ps es h =
+    let m : miscounted ps es ≡ true = or-right (not (within (length ps) 16)) (not (eqb (length ps) (length es))) (rw (ne-eqb (length ps) (length es) h)) in
+    sym (by-count ps es ∙ rw m)
+
+module _ (ps es : List ℕ) (some-task : 1 ≤ length ps) (few : length ps ≤ 16) (paired : length ps ≡ length es) where
+  counted : tasksRow ps es ≡ late ps es
+  counted =
+      let m : miscounted ps es ≡ false = rw (le-leb 1 (length ps) some-task) (rw (le-leb (length ps) 16 few) (rw (eq-eqb (length ps) (length es) paired))) in
+      by-count ps es ∙ rw m
+
+  pub row-range : 0 < first (outOfRange ps es) (length ps) → 31 ≡ tasksRow ps es
+  unfolding late
+  row-range h = sym (counted ∙ rw (lt-ltb _ _ h))
+
+  pub row-fall : first (outOfRange ps es) (length ps) ≤ 0 → 0 < first (falls ps) (length ps) → 32 ≡ tasksRow ps es
+  unfolding late
+  row-fall h k = sym (counted ∙ rw (le-ltb _ _ h) (rw (lt-ltb _ _ k)))
+
+  pub row-none : first (outOfRange ps es) (length ps) ≤ 0 → first (falls ps) (length ps) ≤ 0 → 0 ≡ tasksRow ps es
+  unfolding late
+  row-none h k = sym (counted ∙ rw (le-ltb _ _ h) (rw (le-ltb _ _ k)))
+
+and-both : (a b : Bool) → (a && b) ≡ true → (a ≡ true) × (b ≡ true)
+and-both true b h = (refl, h)
+and-both false b h = absurd (clash refl (sym h))
+
+pub is-within : (x n : ℕ) → within x n ≡ true → (1 ≤ x) × (x ≤ n)
+is-within x n h = let w = and-both (leb 1 x) (leb x n) h in (leb-true _ _ (w .0), leb-true _ _ (w .1))
+
+pub in-range : (p e : ℕ) → inRange p e ≡ true → ((1 ≤ p) × (p ≤ 2000)) × ((1 ≤ e) × (e ≤ p))
+in-range p e h =
+    let both = and-both (within p 2000) (within e p) h in
+    (is-within p 2000 (both .0), is-within e p (both .1))
+
+or-neither : (a b : Bool) → (a || b) ≡ false → (a ≡ false) × (b ≡ false)
+or-neither true b h = absurd (clash refl h)
+or-neither false b h = (refl, h)
+
+-- lists that no row refuses
+module _ (ps es : List ℕ) (m : miscounted ps es ≡ false)
+    (r : (s : ℕ) → 1 ≤ s → s ≤ length ps → outOfRange ps es s ≡ false) (f : (s : ℕ) → 1 ≤ s → s ≤ length ps → falls ps s ≡ false) where
+  ranges : (i : ℕ) → i < length ps → ((1 ≤ getD ps i 0) × (getD ps i 0 ≤ 2000)) × ((1 ≤ getD es i 0) × (getD es i 0 ≤ getD ps i 0))
+  ranges i h = in-range _ _ (not-false _ (sym (range-at ps es i) ∙ r (i + 1) (omega arith) (omega arith)))
+
+  as-tasks : Tasks ps es
+  as-tasks =
+      let parts = or-neither _ _ m in
+      let count = and-both (leb 1 (length ps)) (leb (length ps) 16) (not-false _ (parts .0)) in
+      record {
+        some-task = leb-true _ _ (count .0);
+        few = leb-true _ _ (count .1);
+        paired = sym (eqb-true _ _ (not-false _ (parts .1)));
+        period-least = λ i h. ranges i h .0 .0;
+        period-most = λ i h. ranges i h .0 .1;
+        cost-least = λ i h. ranges i h .1 .0;
+        cost-most = λ i h. ranges i h .1 .1;
+        rising = λ i h. no-fall i h;
+      }
+    where
+      no-fall : (i : ℕ) → suc i < length ps → getD ps i 0 ≤ getD ps (suc i) 0
+      no-fall i h =
+          let e : suc i - 1 ≡ i = omega arith in
+          let t : ltb (getD ps (suc i) 0) (getD ps (suc i - 1) 0) ≡ false = sym (fall-at ps (suc i) (omega arith)) ∙ f (suc i + 1) (omega arith) (omega arith) in
+          ltb-false _ _ (rw e at t)
+
+pub tasks-fit : (ps es : List ℕ) → tasksRow ps es ≡ 0 → Tasks ps es
+unfolding tasksRow
+tasks-fit ps es h =
+    go (miscounted ps es) refl (ltb 0 (first (outOfRange ps es) (length ps))) refl (ltb 0 (first (falls ps) (length ps))) refl h
+  where
+    empty : (g : ℕ → Bool) → ltb 0 (first g (length ps)) ≡ false → (s : ℕ) → 1 ≤ s → s ≤ length ps → g s ≡ false
+    empty g t = first-smallest g (length ps) .none (omega (arith, ltb-false 0 (first g (length ps)) t))
+
+    go : (a : Bool) → miscounted ps es ≡ a → (b : Bool) → ltb 0 (first (outOfRange ps es) (length ps)) ≡ b
+        → (c : Bool) → ltb 0 (first (falls ps) (length ps)) ≡ c → _≡_ {A = ℕ} (cond a 30 (cond b 31 (cond c 32 0))) 0 → Tasks ps es
+    go true ea b eb c ec h = absurd (omega arith)
+    go false ea true eb c ec h = absurd (omega arith)
+    go false ea false eb true ec h = absurd (omega arith)
+    go false ea false eb false ec h = as-tasks ps es ea (empty (outOfRange ps es) eb) (empty (falls ps) ec)

@@ -1,0 +1,110 @@
+-- The laws of the supply curve on which the search rests: the shortest length that supplies d ticks, that it is the inverse of supply,
+-- and that it falls as the budget grows. Another form of supply needs these laws again and nothing else. Assumes nothing.
+use Prim.Native.Nat.{ℕ, zero, suc, _+_, _*_, _-_, _/_, _%_, _≤_, _<_, max}
+use mathlib.Core.Path.{_≡_, refl, ap, sym, _∙_, subst}
+use mathlib.Core.Bool.{Bool, true, false, cond}
+use mathlib.Core.Logic.{_⊎_, inl, inr, ⊎-elim}
+use native.Mathlib.Omega.{arith}
+use native.Mathlib.Nat.{div-add-mod', mod-lt, mul-le-mul, mul-le-mul-right, mul-add, add-mul}
+use lib.Dec.{ltb, leb}
+use borrow.Author.Tests.{lt-ltb, le-ltb}
+use Rattle.shares.specs.Supply.{supplyOf}
+use Rattle.shares.proofs.Numbers.{div-anti, below-or-from}
+
+-- the shortest length over which d ticks are supplied
+abbrev pub reachOf : ℕ → ℕ → ℕ → ℕ
+reachOf P B d = d + (P - B) * (2 + (d - 1) / B)
+
+pub supply-short : (P B t : ℕ) → t < P - B → supplyOf P B t ≡ 0
+unfolding supplyOf
+supply-short P B t h = rw (lt-ltb _ _ h)
+
+pub supply-long : (P B t : ℕ) → P - B ≤ t → supplyOf P B t ≡ (t - (P - B)) / P * B + (t - (2 * (P - B) + (t - (P - B)) / P * P))
+unfolding supplyOf
+supply-long P B t h = rw (le-ltb _ _ h) (omega arith)
+
+-- with P = B + g, t = g + y·P + r and d = k·B + s + 1, both sides are sums of products of these
+module _ (B g y r k s : ℕ) (r-lt : r < B + g) (s-lt : s < B) where
+  up : 2 * g + k * (B + g) + s + 1 ≤ g + y * (B + g) + r → k * B + s + 1 ≤ y * B + (r - g)
+  up h = go (below-or-from k y) (below-or-from y k)
+    where
+      go : (k < y) ⊎ (y ≤ k) → (y < k) ⊎ (k ≤ y) → k * B + s + 1 ≤ y * B + (r - g)
+      go (inl lt) _ = omega (arith, mul-le-mul-right B lt)
+      go (inr ge) (inl gt) = absurd (omega (arith, mul-le-mul-right (B + g) gt))
+      go (inr ge) (inr le) = let e : k ≡ y = omega arith in rw (← e) (omega (arith, rw (← e) at h))
+
+  down : k * B + s + 1 ≤ y * B + (r - g) → 2 * g + k * (B + g) + s + 1 ≤ g + y * (B + g) + r
+  down h = go (below-or-from k y) (below-or-from y k)
+    where
+      go : (k < y) ⊎ (y ≤ k) → (y < k) ⊎ (k ≤ y) → 2 * g + k * (B + g) + s + 1 ≤ g + y * (B + g) + r
+      go (inl lt) _ = omega (arith, mul-le-mul-right (B + g) lt)
+      go (inr ge) (inl gt) = absurd (omega (arith, mul-le-mul-right B gt))
+      go (inr ge) (inr le) = let e : k ≡ y = omega arith in rw (← e) (omega (arith, rw (← e) at h))
+
+-- the three quantities of `up` and `down`, from P, B, t and d
+module _ (P B t d : ℕ) (pos : 1 ≤ B) (fits : B ≤ P) (some-d : 1 ≤ d) where
+  gap : ℕ
+  gap = P - B
+
+  whole : P ≡ B + (P - B)
+  whole = omega arith
+
+  in-d : d ≡ (d - 1) / B * B + (d - 1) % B + 1
+  in-d = omega (arith, div-add-mod' (d - 1) B)
+
+  rest-d : (d - 1) % B < B
+  rest-d = mod-lt (d - 1) pos
+
+  in-t : P - B ≤ t → t ≡ (P - B) + (t - (P - B)) / P * P + (t - (P - B)) % P
+  in-t h = omega (arith, div-add-mod' (t - (P - B)) P)
+
+  rest-t : (t - (P - B)) % P < P
+  rest-t = mod-lt (t - (P - B)) (omega arith)
+
+  reach-sum : reachOf P B d ≡ 2 * (P - B) + (d - 1) / B * (B + (P - B)) + (d - 1) % B + 1
+  reach-sum = omega (arith, in-d, mul-add (P - B) 2 ((d - 1) / B), mul-add ((d - 1) / B) B (P - B))
+
+  supply-sum : P - B ≤ t → supplyOf P B t ≡ (t - (P - B)) / P * B + ((t - (P - B)) % P - (P - B))
+  supply-sum h = supply-long P B t h ∙ omega (arith, in-t h)
+
+  -- d ticks are supplied over every length that reaches them
+  pub reached : reachOf P B d ≤ t → d ≤ supplyOf P B t
+  reached h =
+      let long : P - B ≤ t = omega (arith, reach-sum) in
+      let p : (t - (P - B)) / P * P ≡ (t - (P - B)) / P * (B + (P - B)) = ap (λ (n : ℕ). (t - (P - B)) / P * n) whole in
+      let step = up B (P - B) ((t - (P - B)) / P) ((t - (P - B)) % P) ((d - 1) / B) ((d - 1) % B)
+      (omega (arith, rest-t)) rest-d (omega (arith, reach-sum, in-t long)) in
+      omega (arith, supply-sum long, in-d)
+
+  -- and over no shorter one
+  pub reaches : d ≤ supplyOf P B t → reachOf P B d ≤ t
+  reaches h = go (below-or-from t (P - B))
+    where
+      go : (t < P - B) ⊎ (P - B ≤ t) → reachOf P B d ≤ t
+      go (inl short) = absurd (omega (arith, supply-short P B t short))
+      go (inr long) =
+          let p : (t - (P - B)) / P * P ≡ (t - (P - B)) / P * (B + (P - B)) = ap (λ (n : ℕ). (t - (P - B)) / P * n) whole in
+          let step = down B (P - B) ((t - (P - B)) / P) ((t - (P - B)) % P) ((d - 1) / B) ((d - 1) % B)
+          (omega (arith, rest-t)) rest-d (omega (arith, supply-sum long, in-d)) in
+          omega (arith, reach-sum, in-t long)
+
+-- a larger budget supplies as much over no longer a length
+pub reach-falls : (P B C d : ℕ) → 1 ≤ B → B ≤ C → C ≤ P → reachOf P C d ≤ reachOf P B d
+reach-falls P B C d pos h fits =
+    let gaps : P - C ≤ P - B = omega arith in
+    let turns : 2 + (d - 1) / C ≤ 2 + (d - 1) / B = omega (arith, div-anti (d - 1) B C pos h) in
+    omega (arith, mul-le-mul gaps turns)
+
+-- so supply grows with the budget, wherever some is supplied
+pub supply-grows : (P B C t d : ℕ) → 1 ≤ B → B ≤ C → C ≤ P → 1 ≤ d → d ≤ supplyOf P B t → d ≤ supplyOf P C t
+supply-grows P B C t d pos h fits some-d enough =
+    reached P C t d (omega arith) fits some-d
+    (omega (arith, reach-falls P B C d pos h fits, reaches P B t d pos (omega arith) some-d enough))
+
+-- and is never more than the length
+pub supply-most : (P B t : ℕ) → 1 ≤ B → B ≤ P → supplyOf P B t ≤ t
+supply-most P B t pos fits = go (below-or-from t (supplyOf P B t))
+  where
+    go : (t < supplyOf P B t) ⊎ (supplyOf P B t ≤ t) → supplyOf P B t ≤ t
+    go (inr le) = le
+    go (inl lt) = omega (arith, reaches P B t (supplyOf P B t) pos fits (omega arith) (omega arith))

@@ -1,0 +1,26 @@
+-- `is_in_range` is the test of specs/Rows.antt. Assumes nothing.
+use borrow.Author.Needs.{needs}
+use mathlib.Core.Path.{_≡_, sym, _∙_}
+use mathlib.Core.Bool.{true, false}
+use Rattle.shares.specs.Rows.{within}
+use Rattle.shares.proofs.rows.is_in_range.Statement.{statement}
+use Rattle.shares.proofs.rows.is_in_range.Tie as tie
+
+is-within-requires : tie.Need-is-within-requires
+is-within-requires c κs = search needs
+
+is-within-requires-2 : tie.Need-is-within-requires-2
+is-within-requires-2 c κs = search needs
+
+returns : tie.Need-returns
+returns c =
+    let e : within (c .before .before .before .args .p) 2000 ≡ true = sym (c .before .before .is-within .ensures) ∙ c .before .if1 .taken in
+    rw e (c .is-within2 .ensures)
+
+returns-2 : tie.Need-returns-2
+returns-2 c =
+    let e : within (c .before .before .args .p) 2000 ≡ false = sym (c .before .is-within .ensures) ∙ c .if1 .left in
+    rw e
+
+pub is-in-range-spec : {M : Type 1} → statement M
+is-in-range-spec = tie.close (tie.spec is-within-requires is-within-requires-2 returns returns-2)

@@ -1,0 +1,8 @@
+-- The definitions that the contracts of this crate cite, in reading order. Assumes nothing.
+pub mod Search
+pub mod Supply
+pub mod Demand
+pub mod Share
+pub mod Reply
+pub mod Rows
+pub mod Table

@@ -1,0 +1,86 @@
+-- Document 01, "Reply numbers", rows 30 to 35, in the table's order, and the complete reply of each public function.
+-- Assumes nothing.
+use Prim.Native.Nat.{ℕ, zero, suc, _-_}
+use mathlib.Core.Bool.{Bool, true, false, cond, not, _&&_, _||_}
+use mathlib.Core.List.{List, [], _∷_}
+use lib.Dec.{leb, ltb, eqb}
+use lib.ListN.{length, getD}
+use Rattle.shares.specs.declared.answers.Share.{Share}
+use Rattle.shares.specs.Search.{first}
+use Rattle.shares.specs.Supply.{supplyOf}
+use Rattle.shares.specs.Demand.{demandOf}
+use Rattle.shares.specs.Share.{passes, leastOf, bestOf}
+use Rattle.shares.specs.Reply.{Reply, gives, refuses}
+
+-- x from 1 to n
+abbrev pub within : ℕ → ℕ → Bool
+within x n = leb 1 x && leb x n
+
+-- a row of the table: where it applies its number and detail, else the rows below it
+abbrev pub row : Bool → ℕ → ℕ → Reply → Reply
+row true number detail rest = refuses number detail
+row false number detail rest = rest
+
+-- a period from 1 to 2,000 and an amount from 1 to the period: a task's cost, a budget
+abbrev pub inRange : ℕ → ℕ → Bool
+inRange P B = within P 2000 && within B P
+
+-- 30: no tasks, more than 16, or as many periods as costs don't stand
+abbrev pub miscounted : List ℕ → List ℕ → Bool
+miscounted periods costs = not (within (length periods) 16) || not (eqb (length periods) (length costs))
+
+-- 31, of the task at place k: its period is out of range, or its cost is not 1 to its period
+abbrev pub outOfRange : List ℕ → List ℕ → ℕ → Bool
+outOfRange periods costs k = not (inRange (getD periods (k - 1) 0) (getD costs (k - 1) 0))
+
+-- 32, of the task at place k: its period is below the one before
+abbrev pub falls : List ℕ → ℕ → Bool
+falls periods k = ltb 1 k && ltb (getD periods (k - 1) 0) (getD periods (k - 2) 0)
+
+-- of rows 30, 31 on all tasks, 32: the number of the first that applies, 0 where none does
+unfoldable pub tasksRow : List ℕ → List ℕ → ℕ
+tasksRow periods costs =
+    cond (miscounted periods costs) 30
+    (cond (ltb 0 (first (outOfRange periods costs) (length periods))) 31
+    (cond (ltb 0 (first (falls periods) (length periods))) 32 0))
+
+-- those rows, and the rows below them
+unfoldable pub tasksRows : List ℕ → List ℕ → Reply → Reply
+tasksRows periods costs rest = row (ltb 0 (tasksRow periods costs)) (tasksRow periods costs) 0 rest
+
+-- rows 33, 35
+unfoldable pub supplyReply : ℕ → ℕ → ℕ → Reply
+supplyReply P B t =
+    row (not (inRange P B)) 33 0
+    (row (ltb 2000 t) 35 0
+    (gives (supplyOf P B t ∷ [])))
+
+-- rows 30 to 32, 35
+unfoldable pub demandReply : List ℕ → List ℕ → ℕ → ℕ → Reply
+demandReply periods costs i t =
+    tasksRows periods costs
+    (row (ltb 2000 t || not (within i (length periods))) 35 0
+    (gives (demandOf periods costs i t ∷ [])))
+
+-- rows 30 to 33
+unfoldable pub checkReply : List ℕ → List ℕ → ℕ → ℕ → Reply
+checkReply periods costs P B =
+    tasksRows periods costs
+    (row (not (inRange P B)) 33 0
+    (gives (cond (passes P periods costs B) 1 0 ∷ [])))
+
+-- rows 30 to 33, 34
+unfoldable pub leastReply : List ℕ → List ℕ → ℕ → Reply
+leastReply periods costs P =
+    tasksRows periods costs
+    (row (not (within P 2000)) 33 0
+    (row (eqb (leastOf P periods costs) 0) 34 0
+    (gives (leastOf P periods costs ∷ []))))
+
+-- rows 30 to 33, 34
+unfoldable pub bestReply : List ℕ → List ℕ → ℕ → Reply
+bestReply periods costs P-max =
+    tasksRows periods costs
+    (row (not (within P-max 2000)) 33 0
+    (row (eqb (bestOf periods costs P-max .budget) 0) 34 0
+    (gives (bestOf periods costs P-max .period ∷ bestOf periods costs P-max .budget ∷ []))))

@@ -1,0 +1,40 @@
+-- Document 01, "Supply, demand, least share": when tasks pass with (P, B), the least budget for P, and the best interface up to P_max.
+-- A budget of 0 stands for none, since budgets begin at 1. Assumes nothing.
+use Prim.Native.Nat.{ℕ, zero, suc, _-_, _*_}
+use mathlib.Core.Bool.{Bool, cond}
+use mathlib.Core.List.{List}
+use lib.Dec.{leb, eqb}
+use lib.ListN.{length, getD}
+use Rattle.shares.specs.declared.answers.Share.{Share}
+use Rattle.shares.specs.Search.{somewhere, everywhere, first}
+use Rattle.shares.specs.Supply.{supplyOf}
+use Rattle.shares.specs.Demand.{demandOf}
+
+-- the test of one length: supply is at least the demand of the first i tasks
+abbrev pub enough : ℕ → ℕ → List ℕ → List ℕ → ℕ → ℕ → Bool
+enough P B periods costs i t = leb (demandOf periods costs i t) (supplyOf P B t)
+
+-- task i is met: there is a whole t from 1 to p_i with supply at least demand
+unfoldable pub meets : ℕ → ℕ → List ℕ → List ℕ → ℕ → Bool
+meets P B periods costs i = somewhere (λ t. enough P B periods costs i t) (getD periods (i - 1) 0)
+
+-- the tasks pass with (P, B): every task is met
+unfoldable pub passes : ℕ → List ℕ → List ℕ → ℕ → Bool
+passes P periods costs B = everywhere (λ i. meets P B periods costs i) (length periods)
+
+-- the smallest B from 1 to P that passes
+unfoldable pub leastOf : ℕ → List ℕ → List ℕ → ℕ
+leastOf P periods costs = first (passes P periods costs) P
+
+-- of an earlier share and one of a larger period: the smaller B/P, compared as fractions; at a tie the larger P
+unfoldable pub better : Share → Share → Share
+better old new =
+    cond (eqb (new .budget) 0) old
+    (cond (eqb (old .budget) 0) new
+    (cond (leb (new .budget * old .period) (old .budget * new .period)) new old))
+
+-- the best of the shares (P, least budget for P), P from 1 to n
+unfoldable pub bestOf : List ℕ → List ℕ → ℕ → Share
+bestOf periods costs zero = record { period = 0; budget = 0 }
+bestOf periods costs (suc n) =
+    better (bestOf periods costs n) (record { period = suc n; budget = leastOf (suc n) periods costs })

@@ -1,0 +1,60 @@
+-- What private functions of this crate promise each other: lists that no row refuses, and the table of demands that the search reads.
+-- Nothing public cites it. Assumes nothing.
+use Prim.Native.Nat.{ℕ, suc, _+_, _-_, _*_, _/_, _%_, _≤_, _<_}
+use mathlib.Core.Path.{_≡_}
+use mathlib.Core.Bool.{false, cond}
+use lib.Dec.{eqb}
+use mathlib.Core.List.{List}
+use lib.ListN.{length, getD}
+use Rattle.shares.specs.declared.answers.Share.{Share}
+use Rattle.shares.specs.Demand.{demandOf}
+use Rattle.shares.specs.Share.{passes}
+
+-- 1 to 16 tasks, each of a period from 1 to 2,000 and a cost from 1 to its period, no period below the one before
+pub record Tasks (periods costs : List ℕ) : Type 0 where
+  pub some-task : 1 ≤ length periods
+  pub few : length periods ≤ 16
+  pub paired : length costs ≡ length periods
+  pub period-least : (i : ℕ) → i < length periods → 1 ≤ getD periods i 0
+  pub period-most : (i : ℕ) → i < length periods → getD periods i 0 ≤ 2000
+  pub cost-least : (i : ℕ) → i < length periods → 1 ≤ getD costs i 0
+  pub cost-most : (i : ℕ) → i < length periods → getD costs i 0 ≤ getD periods i 0
+  pub rising : (i : ℕ) → suc i < length periods → getD periods i 0 ≤ getD periods (suc i) 0
+
+-- the longest length that a task looks at: the last task's period
+abbrev pub longest : List ℕ → ℕ
+longest periods = getD periods (length periods - 1) 0
+
+-- the cells before m hold the demand of the first i + 1 tasks at t, at t·16 + i
+abbrev pub Cells : List ℕ → List ℕ → List ℕ → ℕ → Type 0
+Cells periods costs cells m =
+    (k : ℕ) → k < m → k % 16 < length periods → getD cells k 0 ≡ demandOf periods costs (suc (k % 16)) (k / 16)
+
+-- the table, filled as far as m
+pub record Filled (periods costs cells : List ℕ) (m : ℕ) : Type 0 where
+  pub size : length cells ≡ 32016
+  pub right : Cells periods costs cells m
+
+-- what the search is handed: such lists, the whole table of their demands, and a resource period
+pub record Ready (periods costs cells : List ℕ) (P : ℕ) : Type 0 where
+  pub tasks : Tasks periods costs
+  pub table : Filled periods costs cells ((longest periods + 1) * 16)
+  pub period-least : 1 ≤ P
+  pub period-most : P ≤ 2000
+
+-- no budget up to b passes
+abbrev pub NoneUpTo : ℕ → List ℕ → List ℕ → ℕ → Type 0
+NoneUpTo P periods costs b = (x : ℕ) → 1 ≤ x → x ≤ b → passes P periods costs x ≡ false
+
+-- a share that was offered, or none: its budget is at most its period, and that in range
+pub record Offered (s : Share) : Type 0 where
+  pub budget-most : s .budget ≤ s .period
+  pub period-most : s .period ≤ 2000
+
+-- the largest budget with which the period P is no worse than the share s: all of P where s is none
+unfoldable pub capOf : Share → ℕ → ℕ
+capOf s P = cond (eqb (s .budget) 0) P (s .budget * P / s .period)
+
+-- the share (P, B) where there is a budget, else s
+unfoldable pub replacedBy : Share → ℕ → ℕ → Share
+replacedBy s P B = cond (eqb B 0) s (record { period = P; budget = B })

@@ -1,0 +1,141 @@
+// The public functions. Each tests the rows that concern it, in the table's order, before any arithmetic.
+use crate::answers::Budget;
+use crate::answers::Interface;
+use crate::answers::Refusal;
+use crate::answers::Share;
+use crate::answers::Ticks;
+use crate::answers::Verdict;
+use crate::curve::supplied;
+use crate::rows::LONGEST;
+use crate::rows::is_in_range;
+use crate::rows::is_within;
+use crate::rows::tasks_row;
+use crate::search::best_share;
+use crate::search::first_budget;
+use crate::search::least_under;
+use crate::table::CELLS;
+use crate::table::demand_of_one;
+use crate::table::fill;
+ghost use mathlib.Core.Path.{_≡_};
+ghost use Prim.Native.Nat.{_≤_, _<_};
+ghost use lib.ListN.{length};
+ghost use Rattle.shares.specs.Demand.{demandOf};
+ghost use Rattle.shares.specs.Table.{Tasks};
+ghost use Rattle.shares.specs.Reply.{paperTicks, paperVerdict, paperBudget, paperInterface};
+ghost use Rattle.shares.specs.Rows.{supplyReply, demandReply, checkReply, leastReply, bestReply};
+
+fn refusal(number: u32) -> Refusal
+    ensures { λ r. ⌜ (r .number ≡ number) × (r .detail ≡ 0) ⌝ }
+{
+    Refusal { number, detail: 0 }
+}
+
+// The ticks that (p, b) supplies over t at the least.
+pub fn supply(p: u32, b: u32, t: u32) -> Ticks
+    ensures { λ r. ⌜ paperTicks r ≡ supplyReply p b t ⌝ }
+{
+    let fits = is_in_range(p, b);
+    if !fits {
+        return Ticks::No(refusal(33));
+    }
+    if LONGEST < t {
+        return Ticks::No(refusal(35));
+    }
+    Ticks::Of(supplied(p, b, t))
+}
+
+fn demanded(periods: &[u32], costs: &[u32], count: usize, t: u32) -> u32
+    requires { ⌜ Tasks (now periods) (now costs) × ((count ≤ length (now periods)) × (t ≤ 2000)) ⌝ }
+    ensures { λ r. ⌜ r ≡ demandOf (now (periods .entry)) (now (costs .entry)) count t ⌝ }
+{
+    let mut sum = 0;
+    for k in 0..count {
+        sum += demand_of_one(periods[k], costs[k], t);
+    }
+    sum
+}
+
+// The demand of the first `place` tasks over t.
+pub fn demand(periods: &[u32], costs: &[u32], place: u32, t: u32) -> Ticks
+    ensures { λ r. ⌜ paperTicks r ≡ demandReply (now (periods .entry)) (now (costs .entry)) place t ⌝ }
+{
+    let row = tasks_row(periods, costs);
+    if row != 0 {
+        return Ticks::No(refusal(row));
+    }
+    if LONGEST < t {
+        return Ticks::No(refusal(35));
+    }
+    let count = place as usize;
+    if count == 0 {
+        return Ticks::No(refusal(35));
+    }
+    if periods.len() < count {
+        return Ticks::No(refusal(35));
+    }
+    Ticks::Of(demanded(periods, costs, count, t))
+}
+
+// Whether the tasks pass with (p, b).
+pub fn check(periods: &[u32], costs: &[u32], p: u32, b: u32) -> Verdict
+    ensures { λ r. ⌜ paperVerdict r ≡ checkReply (now (periods .entry)) (now (costs .entry)) p b ⌝ }
+{
+    let row = tasks_row(periods, costs);
+    if row != 0 {
+        return Verdict::No(refusal(row));
+    }
+    let fits = is_in_range(p, b);
+    if !fits {
+        return Verdict::No(refusal(33));
+    }
+    let mut cells = [0u32; 32016];
+    fill(periods, costs, &mut cells);
+    if first_budget(periods, costs, &cells, p, b, b) == 0 {
+        Verdict::Fails
+    } else {
+        Verdict::Passes
+    }
+}
+
+// The smallest budget from 1 to p with which the tasks pass.
+pub fn least(periods: &[u32], costs: &[u32], p: u32) -> Budget
+    ensures { λ r. ⌜ paperBudget r ≡ leastReply (now (periods .entry)) (now (costs .entry)) p ⌝ }
+{
+    let row = tasks_row(periods, costs);
+    if row != 0 {
+        return Budget::No(refusal(row));
+    }
+    let fits = is_within(p, LONGEST);
+    if !fits {
+        return Budget::No(refusal(33));
+    }
+    let mut cells = [0u32; 32016];
+    fill(periods, costs, &mut cells);
+    let budget = least_under(periods, costs, &cells, p, p);
+    if budget == 0 {
+        return Budget::No(refusal(34));
+    }
+    Budget::Least(budget)
+}
+
+// The share of the smallest fraction among the periods from 1 to p_max, each with its least budget; at a
+// tie the larger period, since it switches less.
+pub fn best(periods: &[u32], costs: &[u32], p_max: u32) -> Interface
+    ensures { λ r. ⌜ paperInterface r ≡ bestReply (now (periods .entry)) (now (costs .entry)) «p_max» ⌝ }
+{
+    let row = tasks_row(periods, costs);
+    if row != 0 {
+        return Interface::No(refusal(row));
+    }
+    let fits = is_within(p_max, LONGEST);
+    if !fits {
+        return Interface::No(refusal(33));
+    }
+    let mut cells = [0u32; 32016];
+    fill(periods, costs, &mut cells);
+    let share = best_share(periods, costs, &cells, p_max);
+    if share.budget == 0 {
+        return Interface::No(refusal(34));
+    }
+    Interface::Best(share)
+}

@@ -1,0 +1,77 @@
+// Rows 30 to 33 of document 01's table of reply numbers.
+ghost use mathlib.Core.Path.{_≡_};
+ghost use Prim.Native.Nat.{_≤_};
+ghost use lib.ListN.{length};
+ghost use Rattle.shares.specs.Search.{first};
+ghost use Rattle.shares.specs.Rows.{within, inRange, outOfRange, falls, tasksRow};
+
+pub(crate) const MOST_TASKS: usize = 16;
+
+pub(crate) const LONGEST: u32 = 2000;
+
+// x from 1 to n.
+pub(crate) fn is_within(x: u32, n: u32) -> bool
+    ensures { λ r. ⌜ r ≡ within x n ⌝ }
+{
+    1 <= x && x <= n
+}
+
+// A period from 1 to 2,000 and an amount from 1 to the period: a task's cost (row 31), a budget (row 33).
+pub(crate) fn is_in_range(p: u32, b: u32) -> bool
+    ensures { λ r. ⌜ r ≡ inRange p b ⌝ }
+{
+    if is_within(p, LONGEST) {
+        return is_within(b, p);
+    }
+    false
+}
+
+// The first place, from 1, of a task whose numbers are out of range (row 31); 0 where there is none.
+fn first_out_of_range(periods: &[u32], costs: &[u32]) -> usize
+    requires { ⌜ (length (now periods) ≡ length (now costs)) × (length (now periods) ≤ 16) ⌝ }
+    ensures { λ r. ⌜ r ≡ first (outOfRange (now (periods .entry)) (now (costs .entry))) (length (now (periods .entry))) ⌝ }
+{
+    for i in 0..periods.len() {
+        let fits = is_in_range(periods[i], costs[i]);
+        if !fits {
+            return i + 1;
+        }
+    }
+    0
+}
+
+// The first place, from 1, of a task whose period is below the one before (row 32); 0 where there is none.
+fn first_fall(periods: &[u32]) -> usize
+    requires { ⌜ (1 ≤ length (now periods)) × (length (now periods) ≤ 16) ⌝ }
+    ensures { λ r. ⌜ r ≡ first (falls (now (periods .entry))) (length (now (periods .entry))) ⌝ }
+{
+    for i in 1..periods.len() {
+        if periods[i] < periods[i - 1] {
+            return i + 1;
+        }
+    }
+    0
+}
+
+// The row of 30 to 32 that refuses the lists; 0 where none does.
+pub(crate) fn tasks_row(periods: &[u32], costs: &[u32]) -> u32
+    ensures { λ r. ⌜ r ≡ tasksRow (now (periods .entry)) (now (costs .entry)) ⌝ }
+{
+    let n = periods.len();
+    if n == 0 {
+        return 30;
+    }
+    if MOST_TASKS < n {
+        return 30;
+    }
+    if n != costs.len() {
+        return 30;
+    }
+    if 0 < first_out_of_range(periods, costs) {
+        return 31;
+    }
+    if 0 < first_fall(periods) {
+        return 32;
+    }
+    0
+}

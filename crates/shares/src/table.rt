@@ -1,0 +1,39 @@
+// The table of demands: at t * 16 + i the demand of the first i + 1 tasks over the length t, for each
+// length up to the last task's period. The search reads each demand from it and divides no more.
+ghost use mathlib.Core.Path.{_≡_};
+ghost use Prim.Native.Nat.{_+_, _*_, _-_, _/_, _≤_, _<_};
+ghost use lib.ListN.{length};
+ghost use Rattle.shares.specs.Demand.{ceil};
+ghost use Rattle.shares.specs.Table.{Tasks, Filled, longest};
+
+pub(crate) const CELLS: usize = 32016;
+
+// What one task of period p and cost e demands over t.
+pub(crate) fn demand_of_one(p: u32, e: u32, t: u32) -> u32
+    requires { ⌜ (1 ≤ p) × (p ≤ 2000) × (e ≤ p) × (t ≤ 2000) ⌝ }
+    ensures { λ r. ⌜ (r ≡ ceil t p * e) × (r ≤ 4000) ⌝ }
+{
+    (t + (p - 1)) / p * e
+}
+
+fn fill_length(periods: &[u32], costs: &[u32], cells: &mut [u32; 32016], t: u32)
+    requires { ⌜ Tasks (now periods) (now costs) × ((t ≤ 2000) × Filled (now periods) (now costs) (now cells) (t * 16)) ⌝ }
+    ensures { λ r. ⌜ Filled (now (periods .entry)) (now (costs .entry)) (now (cells .exit)) ((t + 1) * 16) ⌝ }
+{
+    let start = t as usize * 16;
+    let mut sum = 0;
+    for i in 0..periods.len() {
+        sum += demand_of_one(periods[i], costs[i], t);
+        cells[start + i] = sum;
+    }
+}
+
+pub(crate) fn fill(periods: &[u32], costs: &[u32], cells: &mut [u32; 32016])
+    requires { ⌜ Tasks (now periods) (now costs) × (length (now cells) ≡ 32016) ⌝ }
+    ensures { λ r. ⌜ Filled (now (periods .entry)) (now (costs .entry)) (now (cells .exit)) ((longest (now (periods .entry)) + 1) * 16) ⌝ }
+{
+    let last = periods[periods.len() - 1];
+    for t in 0..last + 1 {
+        fill_length(periods, costs, cells, t);
+    }
+}
