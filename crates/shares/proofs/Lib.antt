@@ -6,6 +6,7 @@ pub mod SupplyCurve
 pub mod DemandCurve
 pub mod RowLaws
 pub mod TableLaws
+pub mod LeapLaws
 pub mod Walk
 pub mod Budgets
 pub mod BestShare

@@ -5,15 +5,18 @@ use mathlib.Core.Path.{_≡_, refl, ap, sym, _∙_, subst}
 use mathlib.Core.Bool.{Bool, true, false, cond}
 use mathlib.Core.Logic.{_⊎_, inl, inr, ⊎-elim}
 use native.Mathlib.Omega.{arith}
-use native.Mathlib.Nat.{div-add-mod', mod-lt, mul-le-mul, mul-le-mul-right, mul-add, add-mul}
+use native.Mathlib.Nat.{div-add-mod', mod-lt, mul-le-mul, mul-le-mul-left, mul-le-mul-right, mul-add, add-mul}
 use lib.Dec.{ltb, leb}
 use borrow.Author.Tests.{lt-ltb, le-ltb}
 use Rattle.shares.specs.Supply.{supplyOf}
-use Rattle.shares.proofs.Numbers.{div-anti, below-or-from}
+use Rattle.shares.proofs.Numbers.{div-mono, div-anti, below-or-from}
 
--- the shortest length over which d ticks are supplied
+-- how much longer than d ticks the shortest length is over which d ticks are supplied, and that length
+abbrev pub waitedOf : ℕ → ℕ → ℕ → ℕ
+waitedOf P B d = (P - B) * (2 + (d - 1) / B)
+
 abbrev pub reachOf : ℕ → ℕ → ℕ → ℕ
-reachOf P B d = d + (P - B) * (2 + (d - 1) / B)
+reachOf P B d = d + waitedOf P B d
 
 pub supply-short : (P B t : ℕ) → t < P - B → supplyOf P B t ≡ 0
 unfolding supplyOf
@@ -87,6 +90,12 @@ module _ (P B t d : ℕ) (pos : 1 ≤ B) (fits : B ≤ P) (some-d : 1 ≤ d) whe
           let step = down B (P - B) ((t - (P - B)) / P) ((t - (P - B)) % P) ((d - 1) / B) ((d - 1) % B)
           (omega (arith, rest-t)) rest-d (omega (arith, supply-sum long, in-d)) in
           omega (arith, reach-sum, in-t long)
+
+-- more ticks wait no less
+pub waited-grows : (P B c d : ℕ) → c ≤ d → waitedOf P B c ≤ waitedOf P B d
+waited-grows P B c d h =
+    let turns : 2 + (c - 1) / B ≤ 2 + (d - 1) / B = omega (arith, div-mono (c - 1) (d - 1) B (omega arith)) in
+    mul-le-mul-left (P - B) turns
 
 -- a larger budget supplies as much over no longer a length
 pub reach-falls : (P B C d : ℕ) → 1 ≤ B → B ≤ C → C ≤ P → reachOf P C d ≤ reachOf P B d

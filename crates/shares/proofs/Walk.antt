@@ -14,30 +14,43 @@ use Rattle.shares.specs.Search.{somewhere, everywhere, first}
 use Rattle.shares.specs.Supply.{supplyOf}
 use Rattle.shares.specs.Demand.{demandOf}
 use Rattle.shares.specs.Share.{enough, meets, passes}
-use Rattle.shares.specs.Table.{Tasks, longest}
+use Rattle.shares.specs.Table.{Tasks}
 use Rattle.shares.proofs.Numbers.{below-or-from}
 use Rattle.shares.proofs.Places.{somewhere-at, nowhere, everywhere-at, everywhere-all, somewhere-grows, first-at, first-none, and-true, and-right, and-left}
-use Rattle.shares.proofs.SupplyCurve.{reachOf, reached, reaches, supply-grows}
-use Rattle.shares.proofs.DemandCurve.{demand-longer, demand-more, demand-some, under-longest}
+use Rattle.shares.proofs.SupplyCurve.{waitedOf, reachOf, waited-grows, reached, reaches, supply-grows}
+use Rattle.shares.proofs.DemandCurve.{demand-longer, demand-more, demand-some}
 
--- no length below t has enough for the task at i
+-- no length from t on and below v of the task at i has s ticks to spare
+abbrev pub NoneBetween : List ℕ → List ℕ → ℕ → ℕ → ℕ → ℕ → Type 0
+NoneBetween ps es i t v s = (u : ℕ) → 1 ≤ u → t ≤ u → u < v → u ≤ getD ps i 0 → u < demandOf ps es (suc i) u + s
+
+-- no length below t of the task at i has enough for it
 abbrev pub TooShort : ℕ → ℕ → List ℕ → List ℕ → ℕ → ℕ → Type 0
-TooShort P B ps es i t = (s : ℕ) → 1 ≤ s → s < t → supplyOf P B s < demandOf ps es (suc i) s
+TooShort P B ps es i t = (u : ℕ) → 1 ≤ u → u < t → u ≤ getD ps i 0 → supplyOf P B u < demandOf ps es (suc i) u
 
 module _ (P B : ℕ) (ps es : List ℕ) (tasks : Tasks ps es) (pos : 1 ≤ B) (fits : B ≤ P) (i : ℕ) (some-i : i < length ps) where
-  -- a length that supplies too little is left for the shortest that supplies its demand
-  too-short : (t : ℕ) → 1 ≤ t → TooShort P B ps es i t → TooShort P B ps es i (reachOf P B (demandOf ps es (suc i) t))
-  too-short t some-t short s some-s h = go (below-or-from s t) (below-or-from (supplyOf P B s) (demandOf ps es (suc i) s))
+  -- from t on a length that has enough has as many ticks to spare as the demand at t waits
+  spares : (t u : ℕ) → 1 ≤ t → t ≤ u → demandOf ps es (suc i) u ≤ supplyOf P B u
+      → demandOf ps es (suc i) u + waitedOf P B (demandOf ps es (suc i) t) ≤ u
+  spares t u some-t from ge =
+      let c = demandOf ps es (suc i) t in
+      let d = demandOf ps es (suc i) u in
+      omega (
+        arith,
+        reaches P B u d pos fits (demand-some ps es tasks i u some-i (omega arith)) ge,
+        waited-grows P B c d (demand-longer ps es (suc i) t u from),
+      )
+
+  -- so a length t that supplies too little is left for one below which none has so many to spare
+  too-short : (t v : ℕ) → 1 ≤ t → TooShort P B ps es i t → NoneBetween ps es i t v (waitedOf P B (demandOf ps es (suc i) t)) → TooShort P B ps es i v
+  too-short t v some-t short none u some-u h last =
+      go (below-or-from u t) (below-or-from (supplyOf P B u) (demandOf ps es (suc i) u))
     where
-      go : (s < t) ⊎ (t ≤ s) → (supplyOf P B s < demandOf ps es (suc i) s) ⊎ (demandOf ps es (suc i) s ≤ supplyOf P B s)
-          → supplyOf P B s < demandOf ps es (suc i) s
-      go (inl below) _ = short s some-s below
+      go : (u < t) ⊎ (t ≤ u) → (supplyOf P B u < demandOf ps es (suc i) u) ⊎ (demandOf ps es (suc i) u ≤ supplyOf P B u)
+          → supplyOf P B u < demandOf ps es (suc i) u
+      go (inl below) _ = short u some-u below last
       go (inr from) (inl lt) = lt
-      go (inr from) (inr ge) =
-          let d = demandOf ps es (suc i) t in
-          absurd
-          (omega
-          (arith, reaches P B s d pos fits (demand-some ps es tasks i t some-i some-t) (le-trans (demand-longer ps es (suc i) t s from) ge)))
+      go (inr from) (inr ge) = absurd (omega (arith, spares t u some-t from ge, none u some-u from h last))
 
   met-here : (t : ℕ) → 1 ≤ t → t ≤ getD ps i 0 → reachOf P B (demandOf ps es (suc i) t) ≤ t → meets P B ps es (suc i) ≡ true
   unfolding meets
@@ -51,7 +64,7 @@ module _ (P B : ℕ) (ps es : List ℕ) (tasks : Tasks ps es) (pos : 1 ≤ B) (f
   not-met u short h =
       let e : suc i - 1 ≡ i = omega arith in
       nowhere (λ t. enough P B ps es (suc i) t) (getD ps (suc i - 1) 0)
-      (λ t some-t within. lt-leb _ _ (short t some-t (omega (arith, rw e at within))))
+      (λ t some-t within. lt-leb _ _ (short t some-t (omega (arith, rw e at within)) (rw e at within)))
 
   fails : meets P B ps es (suc i) ≡ false → passes P ps es B ≡ false
   unfolding passes
@@ -105,7 +118,7 @@ module _ (ps es : List ℕ) (tasks : Tasks ps es) (P from : ℕ) (pos : 1 ≤ fr
           some-length = w .some-length;
           within = λ more. later more;
           met = λ f k l. step k (below-or-from k i) l;
-          short = λ s p l. next s p l;
+          short = λ s p l last. next s p l;
         }
       where
         later : i + 1 < length ps → t ≤ getD ps (i + 1) 0
@@ -123,40 +136,42 @@ module _ (ps es : List ℕ) (tasks : Tasks ps es) (P from : ℕ) (pos : 1 ≤ fr
         next : (s : ℕ) → 1 ≤ s → s < t → supplyOf P b s < demandOf ps es (suc (i + 1)) s
         next s p l =
             let e : i + 1 ≡ suc i = omega arith in
-            rw e (omega (arith, w .short s p l, demand-more ps es (suc i) s))
+            rw e (omega (arith, w .short s p l (omega (arith, w .within some-i)), demand-more ps es (suc i) s))
 
-    pub walk-jump : reachOf P b (demandOf ps es (suc i) t) ≤ getD ps i 0 → t ≤ reachOf P b (demandOf ps es (suc i) t)
-        → Walk ps es P from b i (reachOf P b (demandOf ps es (suc i) t))
-    walk-jump h l =
-        record {
-          begun = w .begun;
-          failed = w .failed;
-          some-length = le-trans (w .some-length) l;
-          within = λ some-i. h;
-          met = w .met;
-          short = too-short P b ps es tasks (omega (arith, w .begun)) fits i some-i t (w .some-length) (w .short);
-        }
+    module _ (v : ℕ) (none : NoneBetween ps es i t v (waitedOf P b (demandOf ps es (suc i) t))) where
+      short : TooShort P b ps es i v
+      short = too-short P b ps es tasks (omega (arith, w .begun)) fits i some-i t v (w .some-length) (w .short) none
 
-    pub walk-fails : getD ps i 0 < reachOf P b (demandOf ps es (suc i) t) → Walk ps es P from (b + 1) i 1
-    walk-fails h =
-        record {
-          begun = omega (arith, w .begun);
-          failed = λ x l k. step x (below-or-from x b) l k;
-          some-length = omega arith;
-          within = λ some-i. tasks .period-least i some-i;
-          met = λ f k l. meets-grows P b (b + 1) ps es tasks (omega (arith, w .begun)) (omega arith) f k (omega arith) (w .met fits k l);
-          short = λ s p l. absurd (omega arith);
-        }
-      where
-        gone : passes P ps es b ≡ false
-        gone =
-            fails P b ps es tasks (omega (arith, w .begun)) fits i some-i
-            (not-met P b ps es tasks (omega (arith, w .begun)) fits i some-i (reachOf P b (demandOf ps es (suc i) t))
-            (too-short P b ps es tasks (omega (arith, w .begun)) fits i some-i t (w .some-length) (w .short)) h)
+      pub walk-jump : v ≤ getD ps i 0 → t ≤ v → Walk ps es P from b i v
+      walk-jump h l =
+          record {
+            begun = w .begun;
+            failed = w .failed;
+            some-length = le-trans (w .some-length) l;
+            within = λ some-i. h;
+            met = w .met;
+            short = short;
+          }
 
-        step : (x : ℕ) → (x < b) ⊎ (b ≤ x) → from ≤ x → x < b + 1 → passes P ps es x ≡ false
-        step x (inl below) l k = w .failed x l below
-        step x (inr at) l k = let e : x ≡ b = omega arith in rw e gone
+      pub walk-fails : getD ps i 0 < v → Walk ps es P from (b + 1) i 1
+      walk-fails h =
+          record {
+            begun = omega (arith, w .begun);
+            failed = λ x l k. step x (below-or-from x b) l k;
+            some-length = omega arith;
+            within = λ some-i. tasks .period-least i some-i;
+            met = λ f k l. meets-grows P b (b + 1) ps es tasks (omega (arith, w .begun)) (omega arith) f k (omega arith) (w .met fits k l);
+            short = λ s p l. absurd (omega arith);
+          }
+        where
+          gone : passes P ps es b ≡ false
+          gone =
+              fails P b ps es tasks (omega (arith, w .begun)) fits i some-i
+              (not-met P b ps es tasks (omega (arith, w .begun)) fits i some-i v short h)
+
+          step : (x : ℕ) → (x < b) ⊎ (b ≤ x) → from ≤ x → x < b + 1 → passes P ps es x ≡ false
+          step x (inl below) l k = w .failed x l below
+          step x (inr at) l k = let e : x ≡ b = omega arith in rw e gone
 
   -- at the end of the budgets, and at the end of the tasks
   module _ (to b i t : ℕ) (w : Walk ps es P from b i t) where

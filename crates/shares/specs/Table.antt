@@ -1,9 +1,9 @@
 -- What private functions of this crate promise each other: lists that no row refuses, and the table of demands that the search reads.
 -- Nothing public cites it. Assumes nothing.
-use Prim.Native.Nat.{ℕ, suc, _+_, _-_, _*_, _/_, _%_, _≤_, _<_}
+use Prim.Native.Nat.{ℕ, suc, _+_, _-_, _*_, _/_, _%_, _≤_, _<_, max}
 use mathlib.Core.Path.{_≡_}
 use mathlib.Core.Bool.{false, cond}
-use lib.Dec.{eqb}
+use lib.Dec.{ltb, eqb}
 use mathlib.Core.List.{List}
 use lib.ListN.{length, getD}
 use Rattle.shares.specs.declared.answers.Share.{Share}
@@ -35,10 +35,32 @@ pub record Filled (periods costs cells : List ℕ) (m : ℕ) : Type 0 where
   pub size : length cells ≡ 32016
   pub right : Cells periods costs cells m
 
--- what the search is handed: such lists, the whole table of their demands, and a resource period
-pub record Ready (periods costs cells : List ℕ) (P : ℕ) : Type 0 where
+-- no length below t of the task at i has s ticks to spare
+abbrev pub NoneSpares : List ℕ → List ℕ → ℕ → ℕ → ℕ → Type 0
+NoneSpares periods costs i t s = (u : ℕ) → 1 ≤ u → u < t → u ≤ getD periods i 0 → u < demandOf periods costs (suc i) u + s
+
+-- the table of leaps, right as far as m: at i·2001 + s a length below which none of the task at i has s ticks to spare
+pub record Leaps (periods costs leaps : List ℕ) (m : ℕ) : Type 0 where
+  pub size : length leaps ≡ 32016
+  pub right : (k : ℕ) → k < m → NoneSpares periods costs (k / 2001) (getD leaps k 0) (k % 2001)
+
+-- on the way: the task at i is being entered, s is the fewest ticks to spare that no length below t has
+pub record Entering (periods costs leaps : List ℕ) (i t s : ℕ) : Type 0 where
   pub tasks : Tasks periods costs
-  pub table : Filled periods costs cells ((longest periods + 1) * 16)
+  pub task : i < length periods
+  pub few : s ≤ 2000
+  pub done : Leaps periods costs leaps (i * 2001 + s)
+  pub none : NoneSpares periods costs i t s
+
+-- where a task's search goes on that asks for s ticks to spare beside a demand of d
+unfoldable pub leapOf : List ℕ → ℕ → ℕ → ℕ → ℕ
+leapOf leaps i d s = cond (ltb 2000 s) 2001 (max (d + s) (getD leaps (i * 2001 + s) 0))
+
+-- what the search is handed: such lists, the whole tables of their demands and leaps, and a resource period
+pub record Ready (periods costs demands leaps : List ℕ) (P : ℕ) : Type 0 where
+  pub tasks : Tasks periods costs
+  pub table : Filled periods costs demands ((longest periods + 1) * 16)
+  pub leaps-table : Leaps periods costs leaps (length periods * 2001)
   pub period-least : 1 ≤ P
   pub period-most : P ≤ 2000
 

@@ -6,6 +6,7 @@ use crate::answers::Share;
 use crate::answers::Ticks;
 use crate::answers::Verdict;
 use crate::curve::supplied;
+use crate::leaps::fill_leaps;
 use crate::rows::LONGEST;
 use crate::rows::is_in_range;
 use crate::rows::is_within;
@@ -13,7 +14,6 @@ use crate::rows::tasks_row;
 use crate::search::best_share;
 use crate::search::first_budget;
 use crate::search::least_under;
-use crate::table::CELLS;
 use crate::table::demand_of_one;
 use crate::table::fill;
 ghost use mathlib.Core.Path.{_≡_};
@@ -88,9 +88,11 @@ pub fn check(periods: &[u32], costs: &[u32], p: u32, b: u32) -> Verdict
     if !fits {
         return Verdict::No(refusal(33));
     }
-    let mut cells = [0u32; 32016];
-    fill(periods, costs, &mut cells);
-    if first_budget(periods, costs, &cells, p, b, b) == 0 {
+    let mut demands = [0u16; 32016];
+    fill(periods, costs, &mut demands);
+    // One budget is tried once: zeros are leaps enough.
+    let leaps = [0u16; 32016];
+    if first_budget(periods, costs, &demands, &leaps, p, b, b) == 0 {
         Verdict::Fails
     } else {
         Verdict::Passes
@@ -109,9 +111,11 @@ pub fn least(periods: &[u32], costs: &[u32], p: u32) -> Budget
     if !fits {
         return Budget::No(refusal(33));
     }
-    let mut cells = [0u32; 32016];
-    fill(periods, costs, &mut cells);
-    let budget = least_under(periods, costs, &cells, p, p);
+    let mut demands = [0u16; 32016];
+    let mut leaps = [0u16; 32016];
+    fill(periods, costs, &mut demands);
+    fill_leaps(periods, costs, &demands, &mut leaps);
+    let budget = least_under(periods, costs, &demands, &leaps, p, p);
     if budget == 0 {
         return Budget::No(refusal(34));
     }
@@ -131,9 +135,11 @@ pub fn best(periods: &[u32], costs: &[u32], p_max: u32) -> Interface
     if !fits {
         return Interface::No(refusal(33));
     }
-    let mut cells = [0u32; 32016];
-    fill(periods, costs, &mut cells);
-    let share = best_share(periods, costs, &cells, p_max);
+    let mut demands = [0u16; 32016];
+    let mut leaps = [0u16; 32016];
+    fill(periods, costs, &mut demands);
+    fill_leaps(periods, costs, &demands, &mut leaps);
+    let share = best_share(periods, costs, &demands, &leaps, p_max);
     if share.budget == 0 {
         return Interface::No(refusal(34));
     }

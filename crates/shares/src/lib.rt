@@ -5,6 +5,7 @@
 mod answers;
 mod calls;
 mod curve;
+mod leaps;
 mod rows;
 mod search;
 mod table;

@@ -1,7 +1,9 @@
 // The search for the first budget that passes. It rests on three laws: a longer length and a task more
 // demand no less, and a larger budget supplies no less (proofs/SupplyCurve.antt, proofs/DemandCurve.antt).
 use crate::answers::Share;
-use crate::curve::reach;
+use crate::curve::waited;
+use crate::leaps::leap;
+use crate::table::wide;
 ghost use mathlib.Core.Path.{_≡_};
 ghost use mathlib.Core.Bool.{_&&_};
 ghost use lib.Dec.{leb};
@@ -11,17 +13,19 @@ ghost use Rattle.shares.specs.Share.{passes, bestOf};
 ghost use Rattle.shares.specs.Table.{Ready, NoneUpTo, Offered, capOf, replacedBy};
 
 // The first budget from `from` to `to` that passes, 0 where none does. Loops over budgets, tasks and
-// lengths, as document 01 names them. A length that supplies too little is left for the shortest that
-// supplies what it demands; the next task goes on at the same length, and the next budget at the same task.
+// lengths, as document 01 names them. A length that supplies too little is left for the next that may have
+// as many ticks to spare as its demand waits; the next task goes on at the same length, and the next budget
+// at the same task.
 pub(crate) fn first_budget(
     periods: &[u32],
     costs: &[u32],
-    cells: &[u32],
+    demands: &[u16],
+    leaps: &[u16],
     p: u32,
     from: u32,
     to: u32,
 ) -> u32
-    requires { ⌜ Ready (now periods) (now costs) (now cells) p × ((1 ≤ from) × (to ≤ p)) ⌝ }
+    requires { ⌜ Ready (now periods) (now costs) (now demands) (now leaps) p × ((1 ≤ from) × (to ≤ p)) ⌝ }
     ensures { λ r. ⌜ r ≡ first (λ b. leb from b && passes p (now (periods .entry)) (now (costs .entry)) b) to ⌝ }
 {
     let n = periods.len();
@@ -34,11 +38,13 @@ pub(crate) fn first_budget(
         }
         'tasks: while i < n {
             'lengths: loop {
-                let u = reach(p, b, cells[t as usize * 16 + i]);
-                if u <= t {
+                let d = wide(demands[t as usize * 16 + i]);
+                let spare = waited(p, b, d);
+                if d + spare <= t {
                     i += 1;
                     continue 'tasks;
                 }
+                let u = leap(leaps, i, d, spare);
                 if periods[i] < u {
                     b += 1;
                     t = 1;
@@ -53,15 +59,22 @@ pub(crate) fn first_budget(
 
 // A budget below `cap` that fails, and so do all below it; 0 where the steps down, each twice as long
 // as the one before, met none.
-fn failing_below(periods: &[u32], costs: &[u32], cells: &[u32], p: u32, cap: u32) -> u32
-    requires { ⌜ Ready (now periods) (now costs) (now cells) p × ((1 ≤ cap) × (cap ≤ p)) ⌝ }
+fn failing_below(
+    periods: &[u32],
+    costs: &[u32],
+    demands: &[u16],
+    leaps: &[u16],
+    p: u32,
+    cap: u32,
+) -> u32
+    requires { ⌜ Ready (now periods) (now costs) (now demands) (now leaps) p × ((1 ≤ cap) × (cap ≤ p)) ⌝ }
     ensures { λ r. ⌜ (r < cap) × NoneUpTo p (now (periods .entry)) (now (costs .entry)) r ⌝ }
 {
     let mut b = cap;
     let mut step = 1;
     while step < b {
         b -= step;
-        if first_budget(periods, costs, cells, p, b, b) == 0 {
+        if first_budget(periods, costs, demands, leaps, p, b, b) == 0 {
             return b;
         }
         step *= 2;
@@ -70,18 +83,28 @@ fn failing_below(periods: &[u32], costs: &[u32], cells: &[u32], p: u32, cap: u32
 }
 
 // The least budget from 1 to `cap` that passes, 0 where none does.
-pub(crate) fn least_under(periods: &[u32], costs: &[u32], cells: &[u32], p: u32, cap: u32) -> u32
-    requires { ⌜ Ready (now periods) (now costs) (now cells) p × (cap ≤ p) ⌝ }
+pub(crate) fn least_under(
+    periods: &[u32],
+    costs: &[u32],
+    demands: &[u16],
+    leaps: &[u16],
+    p: u32,
+    cap: u32,
+) -> u32
+    requires { ⌜ Ready (now periods) (now costs) (now demands) (now leaps) p × (cap ≤ p) ⌝ }
     ensures { λ r. ⌜ r ≡ first (passes p (now (periods .entry)) (now (costs .entry))) cap ⌝ }
 {
     if cap == 0 {
         return 0;
     }
-    if first_budget(periods, costs, cells, p, cap, cap) == 0 {
+    if first_budget(periods, costs, demands, leaps, p, cap, cap) == 0 {
         return 0;
     }
-    let from = failing_below(periods, costs, cells, p, cap) + 1;
-    first_budget(periods, costs, cells, p, from, cap)
+    let from = failing_below(periods, costs, demands, leaps, p, cap) + 1;
+    if from == cap {
+        return cap;
+    }
+    first_budget(periods, costs, demands, leaps, p, from, cap)
 }
 
 // The largest budget with which the period p is no worse than the best share so far.
@@ -107,8 +130,14 @@ fn replaced(best: Share, p: u32, budget: u32) -> Share
 
 // The best share up to `p_max`; its budget is 0 where no period has one. A later period is searched only
 // up to the budget that makes it no worse than the best so far, so that what it has there replaces that.
-pub(crate) fn best_share(periods: &[u32], costs: &[u32], cells: &[u32], p_max: u32) -> Share
-    requires { ⌜ Ready (now periods) (now costs) (now cells) «p_max» ⌝ }
+pub(crate) fn best_share(
+    periods: &[u32],
+    costs: &[u32],
+    demands: &[u16],
+    leaps: &[u16],
+    p_max: u32,
+) -> Share
+    requires { ⌜ Ready (now periods) (now costs) (now demands) (now leaps) «p_max» ⌝ }
     ensures { λ r. ⌜ r ≡ bestOf (now (periods .entry)) (now (costs .entry)) «p_max» ⌝ }
 {
     let mut best = Share {
@@ -117,7 +146,7 @@ pub(crate) fn best_share(periods: &[u32], costs: &[u32], cells: &[u32], p_max: u
     };
     for p in 1..p_max + 1 {
         let cap = cap_of(best, p);
-        let budget = least_under(periods, costs, cells, p, cap);
+        let budget = least_under(periods, costs, demands, leaps, p, cap);
         best = replaced(best, p, budget);
     }
     best

@@ -6,7 +6,12 @@ ghost use lib.ListN.{length};
 ghost use Rattle.shares.specs.Demand.{ceil};
 ghost use Rattle.shares.specs.Table.{Tasks, Filled, longest};
 
-pub(crate) const CELLS: usize = 32016;
+// A cell as a number of ticks. (The cast alone asks for the cell's bound at each place.)
+pub(crate) fn wide(cell: u16) -> u32
+    ensures { λ r. ⌜ r ≡ cell ⌝ }
+{
+    cell as u32
+}
 
 // What one task of period p and cost e demands over t.
 pub(crate) fn demand_of_one(p: u32, e: u32, t: u32) -> u32
@@ -16,7 +21,7 @@ pub(crate) fn demand_of_one(p: u32, e: u32, t: u32) -> u32
     (t + (p - 1)) / p * e
 }
 
-fn fill_length(periods: &[u32], costs: &[u32], cells: &mut [u32; 32016], t: u32)
+fn fill_length(periods: &[u32], costs: &[u32], cells: &mut [u16; 32016], t: u32)
     requires { ⌜ Tasks (now periods) (now costs) × ((t ≤ 2000) × Filled (now periods) (now costs) (now cells) (t * 16)) ⌝ }
     ensures { λ r. ⌜ Filled (now (periods .entry)) (now (costs .entry)) (now (cells .exit)) ((t + 1) * 16) ⌝ }
 {
@@ -24,11 +29,11 @@ fn fill_length(periods: &[u32], costs: &[u32], cells: &mut [u32; 32016], t: u32)
     let mut sum = 0;
     for i in 0..periods.len() {
         sum += demand_of_one(periods[i], costs[i], t);
-        cells[start + i] = sum;
+        cells[start + i] = sum as u16;
     }
 }
 
-pub(crate) fn fill(periods: &[u32], costs: &[u32], cells: &mut [u32; 32016])
+pub(crate) fn fill(periods: &[u32], costs: &[u32], cells: &mut [u16; 32016])
     requires { ⌜ Tasks (now periods) (now costs) × (length (now cells) ≡ 32016) ⌝ }
     ensures { λ r. ⌜ Filled (now (periods .entry)) (now (costs .entry)) (now (cells .exit)) ((longest (now (periods .entry)) + 1) * 16) ⌝ }
 {

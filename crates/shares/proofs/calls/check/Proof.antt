@@ -2,15 +2,17 @@
 use borrow.Author.Needs.{needs}
 use Rattle.shares.proofs.Budgets.{one-fails, one-passes}
 use Rattle.shares.proofs.RowLaws.{tasks-fit, in-range}
+use Rattle.shares.proofs.LeapLaws.{leaps-zero, zeros}
 use Rattle.shares.proofs.ReplyLaws.{refused, check-rows, check-33, check-gives}
+use lib.ListN.{replicate}
 use lib.ListN.{length-replicate}
 use mathlib.Core.List.{List, [], _∷_}
 use Rattle.shares.specs.Reply.{refuses, gives}
 use borrow.Author.Tests.{not-true, not-false}
 use native.Mathlib.Omega.{arith}
 use mathlib.Core.Bool.{true, false}
-use mathlib.Core.Path.{_≡_, refl, sym, _∙_, ap}
-use Prim.Native.Nat.{ℕ, _≤_, _<_}
+use mathlib.Core.Path.{_≡_, refl, sym, _∙_, ap, subst}
+use Prim.Native.Nat.{ℕ, suc, _+_, _*_, _-_, _≤_, _<_}
 use Rattle.shares.proofs.calls.check.Statement.{statement}
 use Rattle.shares.proofs.calls.check.Tie as tie
 
@@ -47,29 +49,40 @@ fill-requires c κs =
 slice-aggregate-first-budget : tie.Need-slice-aggregate-first-budget
 slice-aggregate-first-budget c = sym (c .before .fill .ensures .size)
 
+slice-aggregate-first-budget-2 : tie.Need-slice-aggregate-first-budget-2
+slice-aggregate-first-budget-2 c = sym (length-replicate {A = ℕ} 32016 0)
+
 first-budget-requires : tie.Need-first-budget-requires
 first-budget-requires c κs =
-    let a = c .before .before .before .before .before .before .before .before .before .args in
-    let r = in-range (a .p) (a .b) (sym (c .before .before .before .before .is-in-range .ensures) ∙ not-false _ (c .before .before .before .if2 .left)) in
-    (record { tasks = tasks-fit (a .periods .now) (a .costs .now) (sym (c .before .before .before .before .before .before .tasks-row .ensures) ∙ c .before .before .before .before .before .if1 .left); table = c .before .fill .ensures; period-least = r .0 .0; period-most = r .0 .1 }, (r .1 .0, r .1 .1))
+    let a = c .before .before .before .before .before .before .before .before .before .before .args in
+    let r = in-range (a .p) (a .b) (sym (c .before .before .before .before .before .is-in-range .ensures) ∙ not-false _ (c .before .before .before .before .if2 .left)) in (
+      record {
+        tasks = tasks-fit (a .periods .now) (a .costs .now) (sym (c .before .before .before .before .before .before .before .tasks-row .ensures) ∙ c .before .before .before .before .before .before .if1 .left);
+        table = c .before .before .fill .ensures;
+        leaps-table = leaps-zero (a .periods .now) (a .costs .now) (replicate {A = ℕ} 32016 0) _ (length-replicate {A = ℕ} 32016 0) (zeros 32016);
+        period-least = r .0 .0;
+        period-most = r .0 .1;
+      },
+      (r .1 .0, r .1 .1),
+    )
 
 returns-3 : tie.Need-returns-3
 returns-3 c =
-    let a = c .before .before .before .before .before .before .before .before .before .before .before .args in
-    let yes = sym (c .before .before .before .before .before .before .is-in-range .ensures) ∙ not-false _ (c .before .before .before .before .before .if2 .left) in
+    let a = c .before .before .before .before .before .before .before .before .before .before .before .before .args in
+    let yes = sym (c .before .before .before .before .before .before .before .is-in-range .ensures) ∙ not-false _ (c .before .before .before .before .before .before .if2 .left) in
     let r = in-range (a .p) (a .b) yes in
-    let fit = tasks-fit (a .periods .now) (a .costs .now) (sym (c .before .before .before .before .before .before .before .before .tasks-row .ensures) ∙ c .before .before .before .before .before .before .before .if1 .left) in
+    let fit = tasks-fit (a .periods .now) (a .costs .now) (sym (c .before .before .before .before .before .before .before .before .before .tasks-row .ensures) ∙ c .before .before .before .before .before .before .before .before .if1 .left) in
     sym
-    (check-gives (a .periods .now) (a .costs .now) (sym (c .before .before .before .before .before .before .before .before .tasks-row .ensures) ∙ c .before .before .before .before .before .before .before .if1 .left) (a .p) (a .b) false yes
+    (check-gives (a .periods .now) (a .costs .now) (sym (c .before .before .before .before .before .before .before .before .before .tasks-row .ensures) ∙ c .before .before .before .before .before .before .before .before .if1 .left) (a .p) (a .b) false yes
     (one-fails (a .p) (a .periods .now) (a .costs .now) fit (a .b) (r .1 .0) (sym (c .if3 .taken) ∙ c .before .first-budget .ensures)))
 
 returns-4 : tie.Need-returns-4
 returns-4 c =
-    let a = c .before .before .before .before .before .before .before .before .before .before .before .args in
-    let yes = sym (c .before .before .before .before .before .before .is-in-range .ensures) ∙ not-false _ (c .before .before .before .before .before .if2 .left) in
-    let fit = tasks-fit (a .periods .now) (a .costs .now) (sym (c .before .before .before .before .before .before .before .before .tasks-row .ensures) ∙ c .before .before .before .before .before .before .before .if1 .left) in
+    let a = c .before .before .before .before .before .before .before .before .before .before .before .before .args in
+    let yes = sym (c .before .before .before .before .before .before .before .is-in-range .ensures) ∙ not-false _ (c .before .before .before .before .before .before .if2 .left) in
+    let fit = tasks-fit (a .periods .now) (a .costs .now) (sym (c .before .before .before .before .before .before .before .before .before .tasks-row .ensures) ∙ c .before .before .before .before .before .before .before .before .if1 .left) in
     sym
-    (check-gives (a .periods .now) (a .costs .now) (sym (c .before .before .before .before .before .before .before .before .tasks-row .ensures) ∙ c .before .before .before .before .before .before .before .if1 .left) (a .p) (a .b) true yes
+    (check-gives (a .periods .now) (a .costs .now) (sym (c .before .before .before .before .before .before .before .before .before .tasks-row .ensures) ∙ c .before .before .before .before .before .before .before .before .if1 .left) (a .p) (a .b) true yes
     (one-passes (a .p) (a .periods .now) (a .costs .now) fit (a .b) (c .before .first-budget .result) (c .if3 .left) (c .before .first-budget .ensures)))
 
 pub check-spec : {M : Type 1} → statement M
@@ -84,6 +97,7 @@ check-spec =
     returns-2
     fill-requires
     slice-aggregate-first-budget
+    slice-aggregate-first-budget-2
     first-budget-requires
     returns-3
     returns-4)

@@ -8,18 +8,18 @@ use Rattle.shares.specs.declared.answers.Share.{Share}
 use native.Mathlib.Omega.{arith}
 use mathlib.Core.List.{List}
 use mathlib.Core.Path.{_≡_, refl, sym, _∙_, ap, subst}
-use Prim.Native.Nat.{ℕ, _+_, _-_, _≤_}
+use Prim.Native.Nat.{ℕ, suc, _+_, _*_, _-_, _≤_, _<_}
 use Rattle.shares.proofs.search.best_share.Statement.{statement}
 use Rattle.shares.proofs.search.best_share.Tie as tie
 
 abbrev Inv-loop : tie.InvT-loop
-Inv-loop periods costs cells p-max best₀ p₀ p-end best p = (1 ≤ p) × (p ≤ p-max + 1) × (best ≡ bestOf periods costs (p - 1))
+Inv-loop periods costs demands leaps p-max best₀ p₀ p-end best p = (1 ≤ p) × (p ≤ p-max + 1) × (best ≡ bestOf periods costs (p - 1))
 
 abbrev μ-loop : tie.MeasureT-loop
-μ-loop periods costs cells p-max best₀ p₀ p-end best p = (p-max + 1) - p
+μ-loop periods costs demands leaps p-max best₀ p₀ p-end best p = (p-max + 1) - p
 
 add-p-end : tie.Need-add-p-end Inv-loop μ-loop
-add-p-end c = record { fits = omega (arith, c .before .before .before .pre .period-most) }
+add-p-end c = record { fits = omega (arith, c .before .before .before .before .pre .period-most) }
 
 loop-holds : tie.Need-loop-holds Inv-loop μ-loop
 unfolding bestOf
@@ -29,18 +29,18 @@ loop-holds c = (omega arith, omega arith, refl)
 offered : (c : tie.In-loop Inv-loop μ-loop) → Offered (c .before .loop .best)
 offered c =
     let l = c .before .loop in
-    let a = c .before .before .before .before .before .args in
+    let s = c .before .before .before .before .before .before in
     subst (λ (s : Share). Offered s) (sym (l .inv .2))
-    (best-offered (a .periods .now) (a .costs .now) (l .p - 1) (omega (arith, l .inv .1, c .before .before .before .before .before .pre .period-most)))
+    (best-offered (s .args .periods .now) (s .args .costs .now) (l .p - 1) (omega (arith, l .inv .1, s .pre .period-most)))
 
 cap-of-requires : tie.Need-cap-of-requires Inv-loop μ-loop
-cap-of-requires c κs = (offered c, omega (arith, c .before .before .before .before .before .pre .period-most))
+cap-of-requires c κs = (offered c, omega (arith, c .before .before .before .before .before .before .pre .period-most))
 
 least-under-requires : tie.Need-least-under-requires Inv-loop μ-loop
 least-under-requires c κs =
     let l = c .before .before .loop in
-    let r = c .before .before .before .before .before .before .pre in (
-      record { tasks = r .tasks; table = r .table; period-least = l .inv .0; period-most = omega (arith, r .period-most) },
+    let r = c .before .before .before .before .before .before .before .pre in (
+      record { tasks = r .tasks; table = r .table; leaps-table = r .leaps-table; period-least = l .inv .0; period-most = omega (arith, r .period-most) },
       subst (λ (n : ℕ). n ≤ l .p) (sym (c .cap-of .ensures)) (cap-most (l .best) (l .p) (offered (c .before))),
     )
 
@@ -48,7 +48,7 @@ replaced-requires : tie.Need-replaced-requires Inv-loop μ-loop
 replaced-requires c κs = search needs
 
 add-p : tie.Need-add-p Inv-loop μ-loop
-add-p c = record { fits = omega (arith, c .before .before .before .before .before .before .before .before .pre .period-most) }
+add-p c = record { fits = omega (arith, c .before .before .before .before .before .before .before .before .before .pre .period-most) }
 
 loop-less : tie.Need-loop-less Inv-loop μ-loop
 loop-less c = search needs
@@ -56,7 +56,7 @@ loop-less c = search needs
 loop-again : tie.Need-loop-again Inv-loop μ-loop
 loop-again c =
     let l = c .before .before .before .before .loop in
-    let a = c .before .before .before .before .before .before .before .before .args in
+    let a = c .before .before .before .before .before .before .before .before .before .args in
     let found = c .before .least-under .ensures ∙ ap (first (passes (l .p) (a .periods .now) (a .costs .now))) (c .before .before .cap-of .ensures) in (
       omega arith,
       omega arith,
@@ -66,7 +66,7 @@ loop-again c =
 returns : tie.Need-returns Inv-loop μ-loop
 returns c =
     let l = c .before .loop in
-    let a = c .before .before .before .before .before .args in
+    let a = c .before .before .before .before .before .before .args in
     let all : l .p - 1 ≡ a .p-max = omega (arith, l .inv .1) in
     l .inv .2 ∙ ap (bestOf (a .periods .now) (a .costs .now)) all
 

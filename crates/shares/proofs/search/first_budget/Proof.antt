@@ -1,11 +1,12 @@
 -- `first_budget` finds the first budget that passes. The invariant of all three loops is the walk of proofs/Walk.antt; the inner ones add that
 -- the budget, and within the lengths the task, is the one that the loop began with. Assumes nothing.
 use borrow.Author.Needs.{needs}
-use Rattle.shares.proofs.Walk.{Walk, walk-start, walk-met, walk-jump, walk-fails, walk-none, walk-found}
+use Rattle.shares.proofs.Walk.{Walk, NoneBetween, walk-start, walk-met, walk-jump, walk-fails, walk-none, walk-found}
+use Rattle.shares.proofs.LeapLaws.{leap-none, leap-least}
 use Rattle.shares.proofs.TableLaws.{cell-at}
-use Rattle.shares.proofs.SupplyCurve.{reachOf}
+use Rattle.shares.proofs.SupplyCurve.{waitedOf, reachOf}
 use Rattle.shares.proofs.DemandCurve.{demand-some, demand-most, under-longest, longest-most}
-use Rattle.shares.specs.Table.{Ready, Tasks, longest}
+use Rattle.shares.specs.Table.{Ready, Tasks, longest, leapOf}
 use Rattle.shares.specs.Demand.{demandOf}
 use lib.ListN.{length, getD}
 use native.Mathlib.Omega.{arith}
@@ -16,29 +17,29 @@ use Rattle.shares.proofs.search.first_budget.Statement.{statement}
 use Rattle.shares.proofs.search.first_budget.Tie as tie
 
 abbrev Inv-lengths : tie.InvT-lengths
-Inv-lengths periods costs cells p from to n b₀ i₀ t₀ b i t = Walk periods costs p from b i t × ((b ≤ to) × ((i < length periods) × ((b ≡ b₀) × (i ≡ i₀))))
+Inv-lengths periods costs demands leaps p from to n b₀ i₀ t₀ b i t = Walk periods costs p from b i t × ((b ≤ to) × ((i < length periods) × ((b ≡ b₀) × (i ≡ i₀))))
 
 abbrev μ-lengths : tie.MeasureT-lengths
-μ-lengths periods costs cells p from to n b₀ i₀ t₀ b i t = getD periods i 0 - t
+μ-lengths periods costs demands leaps p from to n b₀ i₀ t₀ b i t = getD periods i 0 - t
 
 abbrev Inv-tasks : tie.InvT-tasks
-Inv-tasks periods costs cells p from to n b₀ i₀ t₀ b i t = Walk periods costs p from b i t × ((b ≤ to) × (b ≡ b₀))
+Inv-tasks periods costs demands leaps p from to n b₀ i₀ t₀ b i t = Walk periods costs p from b i t × ((b ≤ to) × (b ≡ b₀))
 
 abbrev μ-tasks : tie.MeasureT-tasks
-μ-tasks periods costs cells p from to n b₀ i₀ t₀ b i t = length periods - i
+μ-tasks periods costs demands leaps p from to n b₀ i₀ t₀ b i t = length periods - i
 
 abbrev Inv-budgets : tie.InvT-budgets
-Inv-budgets periods costs cells p from to n b₀ i₀ t₀ b i t = Walk periods costs p from b i t
+Inv-budgets periods costs demands leaps p from to n b₀ i₀ t₀ b i t = Walk periods costs p from b i t
 
 abbrev μ-budgets : tie.MeasureT-budgets
-μ-budgets periods costs cells p from to n b₀ i₀ t₀ b i t = (to + 1) - b
+μ-budgets periods costs demands leaps p from to n b₀ i₀ t₀ b i t = (to + 1) - b
 
 -- what is known where a length is looked at
 abbrev At : Type 0
 At = tie.At-lengths Inv-lengths μ-lengths Inv-tasks μ-tasks Inv-budgets μ-budgets
 
 abbrev start : At → tie.Start Inv-lengths μ-lengths Inv-tasks μ-tasks Inv-budgets μ-budgets
-start l = l .before .before .before .before .before .before .before .before
+start l = l .before .before .before .before .before .before .before .before .before
 
 abbrev ps : At → List ℕ
 ps l = start l .args .periods .now
@@ -46,53 +47,73 @@ ps l = start l .args .periods .now
 abbrev es : At → List ℕ
 es l = start l .args .costs .now
 
-ready : (l : At) → Ready (ps l) (es l) (start l .args .cells .now) (start l .args .p)
+abbrev leaps : At → List ℕ
+leaps l = start l .args .leaps .now
+
+ready : (l : At) → Ready (ps l) (es l) (start l .args .demands .now) (leaps l) (start l .args .p)
 ready l = start l .pre .0
 
--- the demand of the task at i over t, and where it is found
-abbrev demanded : At → ℕ
-demanded l = demandOf (ps l) (es l) (suc (l .lengths .i)) (l .lengths .t)
-
-within : (l : At) → l .lengths .t ≤ longest (ps l)
-within l =
-    omega
-    (arith, l .lengths .inv .0 .within (l .lengths .inv .1 .1 .0), under-longest (ps l) (es l) (ready l .tasks) (l .lengths .i) (l .lengths .inv .1 .1 .0))
-
-column : (l : At) → l .lengths .i < 16
-column l = omega (arith, l .lengths .inv .1 .1 .0, ready l .tasks .few)
-
-place : (l : At) → l .lengths .t * 16 + l .lengths .i < 32016
-place l = omega (arith, within l, column l, longest-most (ps l) (es l) (ready l .tasks))
-
-cell : (l : At) → getD (start l .args .cells .now) (l .lengths .t * 16 + l .lengths .i) 0 ≡ demanded l
-cell l =
-    cell-at (ps l) (es l) (start l .args .cells .now) _ (l .lengths .t) (l .lengths .i) (ready l .table .right) (column l) (l .lengths .inv .1 .1 .0)
-    (omega (arith, within l, column l))
-
-some-ticks : (l : At) → 1 ≤ demanded l
-some-ticks l =
-    demand-some (ps l) (es l) (ready l .tasks) (l .lengths .i) (l .lengths .t) (l .lengths .inv .1 .1 .0) (l .lengths .inv .0 .some-length)
-
-few-ticks : (l : At) → demanded l ≤ 65536
-few-ticks l =
-    omega (
-      arith,
-      demand-most (ps l) (es l) (ready l .tasks) (suc (l .lengths .i)) (l .lengths .t) (l .lengths .inv .1 .1 .0)
-          (omega (arith, within l, longest-most (ps l) (es l) (ready l .tasks))),
-      column l,
-    )
-
--- what `reach` gave is the shortest length that supplies that demand
-leap : (l : At) (u : ℕ) → u ≡ reachOf (start l .args .p) (l .lengths .b) (getD (start l .args .cells .now) (l .lengths .t * 16 + l .lengths .i) 0)
-    → u ≡ reachOf (start l .args .p) (l .lengths .b) (demanded l)
-leap l u e = e ∙ ap (λ (d : ℕ). reachOf (start l .args .p) (l .lengths .b) d) (cell l)
+some-task : (l : At) → l .lengths .i < length (ps l)
+some-task l = l .lengths .inv .1 .1 .0
 
 most : (l : At) → l .lengths .b ≤ start l .args .p
 most l = omega (arith, l .lengths .inv .1 .0, start l .pre .1 .1)
 
+-- the demand of the task at i over t, where it is found, and what it waits
+abbrev demanded : At → ℕ
+demanded l = demandOf (ps l) (es l) (suc (l .lengths .i)) (l .lengths .t)
+
+abbrev waits : At → ℕ
+waits l = waitedOf (start l .args .p) (l .lengths .b) (demanded l)
+
+within : (l : At) → l .lengths .t ≤ longest (ps l)
+within l =
+    omega
+    (arith, l .lengths .inv .0 .within (some-task l), under-longest (ps l) (es l) (ready l .tasks) (l .lengths .i) (some-task l))
+
+column : (l : At) → l .lengths .i < 16
+column l = omega (arith, some-task l, ready l .tasks .few)
+
+place : (l : At) → l .lengths .t * 16 + l .lengths .i < 32016
+place l = omega (arith, within l, column l, longest-most (ps l) (es l) (ready l .tasks))
+
+cell : (l : At) → getD (start l .args .demands .now) (l .lengths .t * 16 + l .lengths .i) 0 ≡ demanded l
+cell l =
+    cell-at (ps l) (es l) (start l .args .demands .now) _ (l .lengths .t) (l .lengths .i) (ready l .table .right) (column l) (some-task l)
+    (omega (arith, within l, column l))
+
+some-ticks : (l : At) → 1 ≤ demanded l
+some-ticks l = demand-some (ps l) (es l) (ready l .tasks) (l .lengths .i) (l .lengths .t) (some-task l) (l .lengths .inv .0 .some-length)
+
+few-ticks : (l : At) → demanded l ≤ 64000
+few-ticks l =
+    omega (
+      arith,
+      demand-most (ps l) (es l) (ready l .tasks) (suc (l .lengths .i)) (l .lengths .t) (some-task l)
+          (omega (arith, within l, longest-most (ps l) (es l) (ready l .tasks))),
+      column l,
+    )
+
+-- where the next length stands, and that nothing between would do
+abbrev next : At → ℕ
+next l = leapOf (leaps l) (l .lengths .i) (demanded l) (waits l)
+
+skipped : (l : At) → NoneBetween (ps l) (es l) (l .lengths .i) (l .lengths .t) (next l) (waits l)
+skipped l = leap-none (ps l) (es l) (leaps l) (l .lengths .i) (l .lengths .t) (waits l) (ready l .tasks) (some-task l) (ready l .leaps-table)
+
+-- what the code has in hand: the demand, what it waits, and the next length
+waits-is : (l : At) (d s : ℕ) → d ≡ getD (start l .args .demands .now) (l .lengths .t * 16 + l .lengths .i) 0
+    → s ≡ waitedOf (start l .args .p) (l .lengths .b) d → s ≡ waits l
+waits-is l d s e f = f ∙ ap (waitedOf (start l .args .p) (l .lengths .b)) (e ∙ cell l)
+
+next-is : (l : At) (d s u : ℕ) → d ≡ getD (start l .args .demands .now) (l .lengths .t * 16 + l .lengths .i) 0
+    → s ≡ waitedOf (start l .args .p) (l .lengths .b) d → u ≡ leapOf (leaps l) (l .lengths .i) d s → u ≡ next l
+next-is l d s u e f g =
+    g ∙ ap (λ (d : ℕ). leapOf (leaps l) (l .lengths .i) d s) (e ∙ cell l) ∙ ap (leapOf (leaps l) (l .lengths .i) (demanded l)) (waits-is l d s e f)
+
 budgets-holds :
     tie.Need-budgets-holds Inv-lengths μ-lengths Inv-tasks μ-tasks Inv-budgets μ-budgets
-budgets-holds c = walk-start _ _ (c .before .before .before .pre .0 .tasks) _ _ (c .before .before .before .pre .1 .0)
+budgets-holds c = walk-start _ _ (c .before .before .before .before .pre .0 .tasks) _ _ (c .before .before .before .before .pre .1 .0)
 
 tasks-holds : tie.Need-tasks-holds Inv-lengths μ-lengths Inv-tasks μ-tasks Inv-budgets μ-budgets
 tasks-holds c = (c .before .budgets .inv, (c .if1 .left, refl))
@@ -101,91 +122,120 @@ lengths-holds :
     tie.Need-lengths-holds Inv-lengths μ-lengths Inv-tasks μ-tasks Inv-budgets μ-budgets
 lengths-holds c = (c .before .tasks .inv .0, (c .before .tasks .inv .1 .0, (c .tasks-test .taken, (refl, refl))))
 
-cast-reach : tie.Need-cast-reach Inv-lengths μ-lengths Inv-tasks μ-tasks Inv-budgets μ-budgets
-cast-reach c = record { fits = omega (arith, place c) }
+cast-wide : tie.Need-cast-wide Inv-lengths μ-lengths Inv-tasks μ-tasks Inv-budgets μ-budgets
+cast-wide c = record { fits = omega (arith, place c) }
 
-mul-reach : tie.Need-mul-reach Inv-lengths μ-lengths Inv-tasks μ-tasks Inv-budgets μ-budgets
-mul-reach c = record { fits = omega (arith, place c) }
+mul-wide : tie.Need-mul-wide Inv-lengths μ-lengths Inv-tasks μ-tasks Inv-budgets μ-budgets
+mul-wide c = record { fits = omega (arith, place c) }
 
-add-reach : tie.Need-add-reach Inv-lengths μ-lengths Inv-tasks μ-tasks Inv-budgets μ-budgets
-add-reach c = record { fits = omega (arith, place c) }
+add-wide : tie.Need-add-wide Inv-lengths μ-lengths Inv-tasks μ-tasks Inv-budgets μ-budgets
+add-wide c = record { fits = omega (arith, place c) }
 
-mul-reach-2 : tie.Need-mul-reach-2 Inv-lengths μ-lengths Inv-tasks μ-tasks Inv-budgets μ-budgets
-mul-reach-2 c = record { fits = omega (arith, place c) }
+mul-wide-2 : tie.Need-mul-wide-2 Inv-lengths μ-lengths Inv-tasks μ-tasks Inv-budgets μ-budgets
+mul-wide-2 c = record { fits = omega (arith, place c) }
 
-shared-slice-read-reach :
-    tie.Need-shared-slice-read-reach Inv-lengths μ-lengths Inv-tasks μ-tasks Inv-budgets μ-budgets
-shared-slice-read-reach c = omega (arith, place (c .before), ready (c .before) .table .size)
+shared-slice-read-wide :
+    tie.Need-shared-slice-read-wide Inv-lengths μ-lengths Inv-tasks μ-tasks Inv-budgets μ-budgets
+shared-slice-read-wide c = omega (arith, place (c .before), ready (c .before) .table .size)
 
-reach-requires :
-    tie.Need-reach-requires Inv-lengths μ-lengths Inv-tasks μ-tasks Inv-budgets μ-budgets
-reach-requires c κs =
-    let l = c .before in (
+wide-requires :
+    tie.Need-wide-requires Inv-lengths μ-lengths Inv-tasks μ-tasks Inv-budgets μ-budgets
+wide-requires c κs = search needs
+
+waited-requires :
+    tie.Need-waited-requires Inv-lengths μ-lengths Inv-tasks μ-tasks Inv-budgets μ-budgets
+waited-requires c κs =
+    let l = c .before .before in (
       omega (arith, l .lengths .inv .0 .begun, start l .pre .1 .0),
-      omega (arith, l .lengths .inv .1 .0, start l .pre .1 .1),
+      most l,
       ready l .period-most,
-      omega (arith, cell l, some-ticks l),
-      omega (arith, cell l, few-ticks l),
+      omega (arith, c .wide .ensures, cell l, some-ticks l),
+      omega (arith, c .wide .ensures, cell l, few-ticks l),
     )
 
+add-if2 : tie.Need-add-if2 Inv-lengths μ-lengths Inv-tasks μ-tasks Inv-budgets μ-budgets
+add-if2 c = record { fits = omega (arith, c .waited .ensures .1, c .before .wide .ensures, cell (c .before .before .before), few-ticks (c .before .before .before)) }
+
 add-i : tie.Need-add-i Inv-lengths μ-lengths Inv-tasks μ-tasks Inv-budgets μ-budgets
-add-i c = record { fits = omega (arith, column (c .before .before .before)) }
+add-i c = record { fits = omega (arith, column (c .before .before .before .before)) }
 
 tasks-less : tie.Need-tasks-less Inv-lengths μ-lengths Inv-tasks μ-tasks Inv-budgets μ-budgets
-tasks-less c = omega (arith, c .before .before .before .lengths .inv .1 .1)
+tasks-less c = omega (arith, c .before .before .before .before .lengths .inv .1 .1)
 
 tasks-again : tie.Need-tasks-again Inv-lengths μ-lengths Inv-tasks μ-tasks Inv-budgets μ-budgets
 tasks-again c =
-    let l = c .before .before .before in
-    let e = leap l (c .before .reach .result) (c .before .reach .ensures) in (
-      walk-met (ps l) (es l) (ready l .tasks) (start l .args .p) (start l .args .from) (start l .pre .1 .0) (l .lengths .b) (l .lengths .i) (l .lengths .t) (most l) (l .lengths .inv .1 .1 .0) (l .lengths .inv .0) (subst (λ (u : ℕ). u ≤ l .lengths .t) e (c .if2 .taken)),
-      (l .lengths .inv .1 .0, l .lengths .inv .1 .1 .1 .0 ∙ c .before .before .before .before .before .tasks .inv .1 .1),
+    let l = c .before .before .before .before in
+    let d = c .before .before .wide .ensures ∙ cell l in
+    let s = waits-is l (c .before .before .wide .result) (c .before .waited .result) (c .before .before .wide .ensures) (c .before .waited .ensures .0) in (
+      walk-met (ps l) (es l) (ready l .tasks) (start l .args .p) (start l .args .from) (start l .pre .1 .0) (l .lengths .b) (l .lengths .i) (l .lengths .t) (most l) (some-task l) (l .lengths .inv .0) (subst (λ (n : ℕ). demanded l + n ≤ l .lengths .t) s (subst (λ (n : ℕ). n + c .before .waited .result ≤ l .lengths .t) d (c .if2 .taken))),
+      (l .lengths .inv .1 .0, l .lengths .inv .1 .1 .1 .0 ∙ c .before .before .before .before .before .before .tasks .inv .1 .1),
     )
 
+leap-requires :
+    tie.Need-leap-requires Inv-lengths μ-lengths Inv-tasks μ-tasks Inv-budgets μ-budgets
+leap-requires c κs =
+    let l = c .before .before .before .before in
+    (ready l .leaps-table .size, column l, omega (arith, c .before .before .wide .ensures, cell l, few-ticks l), c .before .waited .ensures .1)
+
 mul-if3 : tie.Need-mul-if3 Inv-lengths μ-lengths Inv-tasks μ-tasks Inv-budgets μ-budgets
-mul-if3 c = record { fits = omega (arith, column (c .before .before .before)) }
+mul-if3 c = record { fits = omega (arith, column (c .before .before .before .before .before)) }
 
 shared-slice-read-if3 :
     tie.Need-shared-slice-read-if3 Inv-lengths μ-lengths Inv-tasks μ-tasks Inv-budgets μ-budgets
-shared-slice-read-if3 c = c .before .before .before .before .lengths .inv .1 .1 .0
+shared-slice-read-if3 c = some-task (c .before .before .before .before .before .before)
 
 add-b : tie.Need-add-b Inv-lengths μ-lengths Inv-tasks μ-tasks Inv-budgets μ-budgets
-add-b c = record { fits = omega (arith, most (c .before .before .before .before .before), ready (c .before .before .before .before .before) .period-most) }
+add-b c = record { fits = omega (arith, most (c .before .before .before .before .before .before .before), ready (c .before .before .before .before .before .before .before) .period-most) }
 
 budgets-less : tie.Need-budgets-less Inv-lengths μ-lengths Inv-tasks μ-tasks Inv-budgets μ-budgets
-budgets-less c = omega (arith, c .before .before .before .before .before .lengths .inv .1, c .before .before .before .before .before .before .before .tasks .inv .1)
+budgets-less c = omega (arith, c .before .before .before .before .before .before .before .lengths .inv .1, c .before .before .before .before .before .before .before .before .before .tasks .inv .1)
 
 budgets-again :
     tie.Need-budgets-again Inv-lengths μ-lengths Inv-tasks μ-tasks Inv-budgets μ-budgets
 budgets-again c =
-    let l = c .before .before .before .before .before in
-    let e = leap l (c .before .before .before .reach .result) (c .before .before .before .reach .ensures) in
-    walk-fails (ps l) (es l) (ready l .tasks) (start l .args .p) (start l .args .from) (start l .pre .1 .0) (l .lengths .b) (l .lengths .i) (l .lengths .t) (most l) (l .lengths .inv .1 .1 .0) (l .lengths .inv .0) (subst (λ (u : ℕ). getD (ps l) (l .lengths .i) 0 < u) e (c .if3 .taken))
+    let l = c .before .before .before .before .before .before .before in
+    let e = next-is l (c .before .before .before .before .before .wide .result) (c .before .before .before .before .waited .result) (c .before .before .leap .result) (c .before .before .before .before .before .wide .ensures) (c .before .before .before .before .waited .ensures .0) (c .before .before .leap .ensures) in
+    walk-fails (ps l) (es l) (ready l .tasks) (start l .args .p) (start l .args .from) (start l .pre .1 .0) (l .lengths .b) (l .lengths .i) (l .lengths .t) (most l) (some-task l) (l .lengths .inv .0) (next l) (skipped l) (subst (λ (u : ℕ). getD (ps l) (l .lengths .i) 0 < u) e (c .if3 .taken))
+
+-- the next length is longer: what it leaps to is at least the demand and what it waits, or above all
+onward : (c : tie.Else3 Inv-lengths μ-lengths Inv-tasks μ-tasks Inv-budgets μ-budgets)
+    → c .before .before .before .before .before .before .before .lengths .t < c .before .before .leap .result
+onward c =
+    let l = c .before .before .before .before .before .before .before in
+    omega (
+      arith,
+      c .before .before .leap .ensures,
+      leap-least (leaps l) (l .lengths .i) (c .before .before .before .before .before .wide .result) (c .before .before .before .before .waited .result),
+      c .before .before .before .if2 .left,
+      within l,
+      longest-most (ps l) (es l) (ready l .tasks),
+    )
 
 lengths-less : tie.Need-lengths-less Inv-lengths μ-lengths Inv-tasks μ-tasks Inv-budgets μ-budgets
-lengths-less c = omega (arith, c .if3 .left, c .before .before .if2 .left)
+lengths-less c = omega (arith, c .if3 .left, onward c)
 
 lengths-again :
     tie.Need-lengths-again Inv-lengths μ-lengths Inv-tasks μ-tasks Inv-budgets μ-budgets
 lengths-again c =
-    let l = c .before .before .before .before .before in
-    let e = leap l (c .before .before .before .reach .result) (c .before .before .before .reach .ensures) in (
+    let l = c .before .before .before .before .before .before .before in
+    let e = next-is l (c .before .before .before .before .before .wide .result) (c .before .before .before .before .waited .result) (c .before .before .leap .result) (c .before .before .before .before .before .wide .ensures) (c .before .before .before .before .waited .ensures .0) (c .before .before .leap .ensures) in (
       subst (λ (u : ℕ). Walk (ps l) (es l) (start l .args .p) (start l .args .from) (l .lengths .b) (l .lengths .i) u) (sym e)
-          (walk-jump (ps l) (es l) (ready l .tasks) (start l .args .p) (start l .args .from) (start l .pre .1 .0) (l .lengths .b) (l .lengths .i) (l .lengths .t) (most l) (l .lengths .inv .1 .1 .0) (l .lengths .inv .0) (subst (λ (u : ℕ). u ≤ getD (ps l) (l .lengths .i) 0) e (c .if3 .left)) (subst (λ (u : ℕ). l .lengths .t ≤ u) e (omega (arith, c .before .before .if2 .left)))),
+          (walk-jump (ps l) (es l) (ready l .tasks) (start l .args .p) (start l .args .from) (start l .pre .1 .0) (l .lengths .b) (l .lengths .i) (l .lengths .t) (most l) (some-task l) (l .lengths .inv .0) (next l) (skipped l) (subst (λ (u : ℕ). u ≤ getD (ps l) (l .lengths .i) 0) e (c .if3 .left))
+          (subst (λ (u : ℕ). l .lengths .t ≤ u) e (omega (arith, onward c)))),
       l .lengths .inv .1,
     )
 
 returns : tie.Need-returns Inv-lengths μ-lengths Inv-tasks μ-tasks Inv-budgets μ-budgets
 returns c =
-    let a = c .before .before .before .before .before .args in
+    let a = c .before .before .before .before .before .before .args in
     let w = c .before .budgets in
-    walk-none (a .periods .now) (a .costs .now) (c .before .before .before .before .before .pre .0 .tasks) (a .p) (a .from) (c .before .before .before .before .before .pre .1 .0) (a .to) (w .b) (w .i) (w .t) (w .inv) (c .if1 .taken)
+    walk-none (a .periods .now) (a .costs .now) (c .before .before .before .before .before .before .pre .0 .tasks) (a .p) (a .from) (c .before .before .before .before .before .before .pre .1 .0) (a .to) (w .b) (w .i) (w .t) (w .inv) (c .if1 .taken)
 
 returns-2 : tie.Need-returns-2 Inv-lengths μ-lengths Inv-tasks μ-tasks Inv-budgets μ-budgets
 returns-2 c =
-    let a = c .before .before .before .before .before .before .before .args in
+    let a = c .before .before .before .before .before .before .before .before .args in
     let w = c .before .tasks in
-    walk-found (a .periods .now) (a .costs .now) (c .before .before .before .before .before .before .before .pre .0 .tasks) (a .p) (a .from) (c .before .before .before .before .before .before .before .pre .1 .0) (a .to) (w .b) (w .i) (w .t) (w .inv .0) (w .inv .1 .0) (c .before .before .before .before .before .before .before .pre .1 .1) (c .tasks-test .left)
+    walk-found (a .periods .now) (a .costs .now) (c .before .before .before .before .before .before .before .before .pre .0 .tasks) (a .p) (a .from) (c .before .before .before .before .before .before .before .before .pre .1 .0) (a .to) (w .b) (w .i) (w .t) (w .inv .0) (w .inv .1 .0) (c .before .before .before .before .before .before .before .before .pre .1 .1) (c .tasks-test .left)
 
 pub first-budget-spec : {M : Type 1} → statement M
 first-budget-spec =
@@ -200,15 +250,18 @@ first-budget-spec =
     budgets-holds
     tasks-holds
     lengths-holds
-    cast-reach
-    mul-reach
-    add-reach
-    mul-reach-2
-    shared-slice-read-reach
-    reach-requires
+    cast-wide
+    mul-wide
+    add-wide
+    mul-wide-2
+    shared-slice-read-wide
+    wide-requires
+    waited-requires
+    add-if2
     add-i
     tasks-less
     tasks-again
+    leap-requires
     mul-if3
     shared-slice-read-if3
     add-b

@@ -1,17 +1,14 @@
 -- `fill_length` fills the cells of one length. The invariant: the cells before are right, and the sum is the demand of the tasks passed.
 -- Assumes nothing.
 use borrow.Author.Needs.{needs}
-use mathlib.Core.Path.{subst}
-use Prim.Native.Nat.{ℕ}
-use lib.ListN.{length-set}
 use Rattle.shares.proofs.TableLaws.{demand-next, cells-more, cells-padded}
 use Rattle.shares.proofs.DemandCurve.{demand-most}
 use Rattle.shares.specs.Table.{Cells}
 use Rattle.shares.specs.Demand.{demandOf}
-use lib.ListN.{length}
+use lib.ListN.{length, length-set}
 use native.Mathlib.Omega.{arith}
-use mathlib.Core.Path.{_≡_, refl, sym, _∙_}
-use Prim.Native.Nat.{_+_, _*_, _-_, _≤_}
+use mathlib.Core.Path.{_≡_, refl, sym, _∙_, ap, subst}
+use Prim.Native.Nat.{ℕ, suc, _+_, _*_, _-_, _≤_, _<_}
 use Rattle.shares.proofs.table.fill_length.Statement.{statement}
 use Rattle.shares.proofs.table.fill_length.Tie as tie
 
@@ -27,8 +24,12 @@ mul-start c = search needs
 loop-holds : tie.Need-loop-holds Inv-loop μ-loop
 loop-holds c =
     let a = c .before .before .args in
-    let e : a .t * 16 ≡ a .t * 16 + 0 = omega arith in
-    (omega arith, c .before .before .pre .1 .1 .size, refl, subst (λ (m : ℕ). Cells (a .periods .now) (a .costs .now) (a .cells .now) m) e (c .before .before .pre .1 .1 .right))
+    let e : a .t * 16 ≡ a .t * 16 + 0 = omega arith in (
+      omega arith,
+      c .before .before .pre .1 .1 .size,
+      refl,
+      subst (λ (m : ℕ). Cells (a .periods .now) (a .costs .now) (a .cells .now) m) e (c .before .before .pre .1 .1 .right),
+    )
 
 mul-demand-of-one : tie.Need-mul-demand-of-one Inv-loop μ-loop
 mul-demand-of-one c = search needs
@@ -48,10 +49,20 @@ demand-of-one-requires c κs =
     let i = c .before .before .before .loop .i in
     (tasks .period-least i (omega arith), tasks .period-most i (omega arith), tasks .cost-most i (omega arith), c .before .before .before .before .before .before .pre .1 .0)
 
-add-sum : tie.Need-add-sum Inv-loop μ-loop
-add-sum c =
+-- the sum with one more task's demand
+next-most : (c : tie.After-demand-of-one Inv-loop μ-loop) → c .before .before .before .before .loop .sum + c .demand-of-one .result ≤ 64000
+next-most c =
+    let a = c .before .before .before .before .before .before .before .args in
     let tasks = c .before .before .before .before .before .before .before .pre .0 in
-    record { fits = omega (arith, c .demand-of-one .ensures, demand-most _ _ tasks (c .before .before .before .before .loop .i) (c .before .before .before .before .before .before .before .args .t) (omega arith) (omega arith)) }
+    let l = c .before .before .before .before .loop in
+    omega
+    (arith, l .inv .2, c .demand-of-one .ensures, tasks .few, demand-most (a .periods .now) (a .costs .now) tasks (suc (l .i)) (a .t) (omega arith) (omega arith))
+
+add-sum : tie.Need-add-sum Inv-loop μ-loop
+add-sum c = record { fits = omega (arith, next-most c) }
+
+cast-cells : tie.Need-cast-cells Inv-loop μ-loop
+cast-cells c = record { fits = omega (arith, next-most c) }
 
 add-cells : tie.Need-add-cells Inv-loop μ-loop
 add-cells c = search needs
@@ -89,7 +100,8 @@ returns c =
     let all : l .i ≡ length (a .periods .now) = omega arith in
     record {
       size = l .inv .1;
-      right = cells-padded (a .periods .now) (a .costs .now) (l .cells) (a .t) (tasks .few)
+      right =
+          cells-padded (a .periods .now) (a .costs .now) (l .cells) (a .t) (tasks .few)
           (subst (λ (n : ℕ). Cells (a .periods .now) (a .costs .now) (l .cells) (a .t * 16 + n)) all (l .inv .3));
     }
 
@@ -107,6 +119,7 @@ fill-length-spec =
     shared-slice-read-demand-of-one-2
     demand-of-one-requires
     add-sum
+    cast-cells
     add-cells
     mul-cells
     element-write-cells

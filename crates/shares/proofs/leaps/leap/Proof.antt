@@ -1,0 +1,63 @@
+-- `leap` is the leap of specs/Table.antt. Assumes nothing.
+use borrow.Author.Needs.{needs}
+use Rattle.shares.proofs.LeapLaws.{leap-far, leap-near}
+use lib.ListN.{getD}
+use native.Mathlib.Nat.{max-eq-left, max-eq-right}
+use native.Mathlib.Omega.{arith}
+use mathlib.Core.Path.{_≡_, refl, sym, _∙_, ap, subst}
+use Prim.Native.Nat.{ℕ, suc, _+_, _*_, _-_, _≤_, _<_}
+use Rattle.shares.proofs.leaps.leap.Statement.{statement}
+use Rattle.shares.proofs.leaps.leap.Tie as tie
+
+returns : tie.Need-returns
+returns c =
+    let a = c .before .before .args in
+    sym (leap-far (a .leaps .now) (a .i) (a .d) (a .spare) (c .if1 .taken))
+
+mul-wide : tie.Need-mul-wide
+mul-wide c = record { fits = omega (arith, c .before .before .pre) }
+
+add-wide : tie.Need-add-wide
+add-wide c = record { fits = omega (arith, c .before .before .pre, c .if1 .left) }
+
+mul-wide-2 : tie.Need-mul-wide-2
+mul-wide-2 c = record { fits = omega (arith, c .before .before .pre, c .if1 .left) }
+
+shared-slice-read-wide : tie.Need-shared-slice-read-wide
+shared-slice-read-wide c = omega (arith, c .before .before .before .pre, c .before .if1 .left)
+
+wide-requires : tie.Need-wide-requires
+wide-requires c κs = search needs
+
+add-if2 : tie.Need-add-if2
+add-if2 c = record { fits = omega (arith, c .before .before .before .before .pre) }
+
+add-result : tie.Need-add-result
+add-result c = record { fits = omega (arith, c .before .before .before .before .before .pre) }
+
+returns-2 : tie.Need-returns-2
+returns-2 c =
+    let a = c .before .before .before .before .before .args in
+    let cell = c .before .wide .ensures in
+    sym (leap-near (a .leaps .now) (a .i) (a .d) (a .spare) (c .before .before .before .if1 .left) ∙ max-eq-left (omega (arith, cell, c .if2 .taken)))
+
+returns-3 : tie.Need-returns-3
+returns-3 c =
+    let a = c .before .before .before .before .before .args in
+    let cell = c .before .wide .ensures in
+    cell ∙ sym (leap-near (a .leaps .now) (a .i) (a .d) (a .spare) (c .before .before .before .if1 .left) ∙ max-eq-right (omega (arith, cell, c .if2 .left)))
+
+pub leap-spec : {M : Type 1} → statement M
+leap-spec =
+    tie.close
+    (tie.spec
+    returns
+    mul-wide
+    add-wide
+    mul-wide-2
+    shared-slice-read-wide
+    wide-requires
+    add-if2
+    add-result
+    returns-2
+    returns-3)
