@@ -11,3 +11,7 @@ pub mod Walk
 pub mod Budgets
 pub mod BestShare
 pub mod ReplyLaws
+pub mod Meaning
+pub mod Replies
+pub mod Examples
+pub mod OneReply

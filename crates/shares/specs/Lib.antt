@@ -6,3 +6,5 @@ pub mod Share
 pub mod Reply
 pub mod Rows
 pub mod Table
+pub mod Meaning
+pub mod Examples

@@ -4,7 +4,7 @@ use Prim.Native.Nat.{ℕ, _+_, _*_, _-_, _/_, max}
 use mathlib.Core.Bool.{cond}
 use lib.Dec.{ltb}
 
--- g = P - B; 0 if t < g; otherwise y = floor((t - g)/P), and y·B + max(0, t - 2g - y·P)
+-- g = P - B; 0 if t < g; otherwise y = floor((t - g)/P), and y·B + max(0, t - 2g - y·P); ℕ's minus stops at 0 by itself
 unfoldable pub supplyOf : ℕ → ℕ → ℕ → ℕ
 supplyOf P B t =
     let g = P - B in

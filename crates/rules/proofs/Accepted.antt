@@ -1,0 +1,110 @@
+-- What an accepted call passed: none of the rows applied. While a VCPU runs, the timer keeps the ticks held to those usable (row 3).
+-- Assumes nothing.
+use mathlib.Core.Path.{_≡_, refl, ap, sym, _∙_, subst}
+use mathlib.Core.Bool.{Bool, true, false, not, _&&_}
+use mathlib.Core.List.{List}
+use mathlib.Core.Option.{Option, none, some}
+use Prim.Native.Nat.{ℕ, _+_, _-_, _≤_, _<_}
+use native.Mathlib.Omega.{arith}
+use lib.Dec.{leb, ltb}
+use lib.ListN.{length}
+use borrow.Author.Tests.{leb-true, leb-false, ltb-false, not-false}
+use Rattle.rules.specs.Limits.{largestTime, largestTunnel, largestPeriod, mostVcpus, inRange}
+use Rattle.rules.specs.Lists.{count, All, Among}
+use Rattle.rules.specs.Vcpu.{Description, Vcpu, named}
+use Rattle.rules.specs.Card.{Card, onCard}
+use Rattle.rules.specs.Change.{Change}
+use Rattle.rules.specs.Choose.{choose, runs}
+use Rattle.rules.specs.Timer.{timer}
+use Rattle.rules.specs.Refuse.{Refusal, row, rowLate, admitRows, callRows, refusal}
+use Rattle.rules.specs.History.{holds}
+use Rattle.rules.proofs.Tests.{tests, clash, no-some, and-true}
+use Rattle.rules.proofs.Named.{named-itself}
+use Rattle.rules.proofs.Lists.{among-all, only-one}
+use Rattle.rules.specs.Meaning.{InRange}
+use Rattle.rules.proofs.Choice.{chosen}
+use Rattle.rules.proofs.Timer.{while-running}
+
+pub row-passed : (t : Bool) (number detail : ℕ) (below : Option Refusal) → row t number detail below ≡ none → (t ≡ false) × (below ≡ none)
+row-passed true number detail below e = no-some (sym e)
+row-passed false number detail below e = (refl, e)
+
+pub record Passed (c : Card) (now : ℕ) (asked : Change) : Type 0 where
+  pub not-above : now ≤ largestTime
+  pub not-before : c .last ≤ now
+  pub not-late : (t : ℕ) → c .timer ≡ some t → now ≤ t
+  pub asked-for : callRows (c .vcpus) asked ≡ none
+
+pub passed : (c : Card) (now : ℕ) (asked : Change) → refusal c now asked ≡ none → Passed c now asked
+unfolding refusal
+passed c now asked e =
+    let a = row-passed (ltb largestTime now) 1 0 (row (ltb now (c .last)) 2 0 (rowLate (c .timer) now (callRows (c .vcpus) asked))) e in
+    let b = row-passed (ltb now (c .last)) 2 0 (rowLate (c .timer) now (callRows (c .vcpus) asked)) (a .1) in
+    let l = late (c .timer) (callRows (c .vcpus) asked) (b .1) in
+    record {
+      not-above = omega (arith, tests, a .0);
+      not-before = omega (arith, tests, b .0);
+      not-late = l .0;
+      asked-for = l .1;
+    }
+  where
+    late : (o : Option ℕ) (below : Option Refusal) → rowLate o now below ≡ none → ((t : ℕ) → o ≡ some t → now ≤ t) × (below ≡ none)
+    late none below f = (λ t g. no-some g, f)
+    late (some u) below f =
+        let p = row-passed (ltb u now) 3 u below f in
+        (λ t g. let q : u ≡ t = cc in omega (arith, tests), p .1)
+
+pub record Admits (vs : List Vcpu) (d : Description) : Type 0 where
+  pub range : InRange d
+  pub not-there : onCard (d .tunnel) vs ≡ false
+  pub room : length vs < mostVcpus
+
+pub admits : (vs : List Vcpu) (d : Description) → admitRows vs d ≡ none → Admits vs d
+admits vs d e =
+    let a = row-passed (ltb largestTunnel (d .tunnel)) 4 0 _ e in
+    let b = row-passed (not (inRange (d .period) (d .capacity))) 5 0 _ (a .1) in
+    let f = row-passed (onCard (d .tunnel) vs) 6 0 _ (b .1) in
+    let g = row-passed (leb mostVcpus (length vs)) 8 0 _ (f .1) in
+    let r : inRange (d .period) (d .capacity) ≡ true = not-false (inRange (d .period) (d .capacity)) (b .0) in
+    let h = and-true (leb 1 (d .period) && leb (d .period) largestPeriod && leb 1 (d .capacity)) (leb (d .capacity) (d .period)) r in
+    let i = and-true (leb 1 (d .period) && leb (d .period) largestPeriod) (leb 1 (d .capacity)) (h .0) in
+    let j = and-true (leb 1 (d .period)) (leb (d .period) largestPeriod) (i .0) in
+    record {
+      range = record {
+        tunnel-high = ltb-false largestTunnel (d .tunnel) (a .0);
+        period-low = leb-true 1 (d .period) (j .0);
+        period-high = leb-true (d .period) largestPeriod (j .1);
+        capacity-low = leb-true 1 (d .capacity) (i .1);
+        capacity-high = leb-true (d .capacity) (d .period) (h .1);
+      };
+      not-there = f .0;
+      room = leb-false mostVcpus (length vs) (g .0);
+    }
+
+-- the card runs the one chosen, and has its timer
+pub record Settled (c : Card) : Type 0 where
+  pub runs-chosen : c .running ≡ runs (choose (c .vcpus))
+  pub timer-set : c .timer ≡ timer (c .last) (c .vcpus) (choose (c .vcpus))
+
+-- "while a VCPU runs, the timer is at most `last` + its usable ticks": an accepted call comes in time
+pub in-time : (c : Card) (now : ℕ) → Settled c → ((t : ℕ) → count (named t) (c .vcpus) ≤ 1) → ((t : ℕ) → c .timer ≡ some t → now ≤ t)
+    → All (λ v. holds (v .terms .tunnel) (c .running) ≡ true → now ≤ c .last + v .usable) (c .vcpus)
+in-time c now s once late = among-all _ (c .vcpus) (λ v m h. go v m (choose (c .vcpus)) refl (rw (s .runs-chosen) at h))
+  where
+    go : (v : Vcpu) → Among v (c .vcpus) → (o : Option Vcpu) → choose (c .vcpus) ≡ o → holds (v .terms .tunnel) (runs o) ≡ true → now ≤ c .last + v .usable
+    go v m none e h = clash (sym h)
+    go v m (some w) e h =
+        let f = chosen (c .vcpus) w e in
+        let r = while-running (c .last) (c .vcpus) w in
+        let q : v ≡ w = only-one (named (w .terms .tunnel)) (c .vcpus) (once (w .terms .tunnel)) v w m (f .on-card) h (named-itself w) in
+        let t : c .timer ≡ some (r .0) = s .timer-set ∙ ap (timer (c .last) (c .vcpus)) e ∙ r .1 in
+        let l : now ≤ c .last + w .usable = omega (arith, late (r .0) t, r .2 .in-time) in
+        subst (λ (x : Vcpu). now ≤ c .last + x .usable) (sym q) l
+
+-- nobody runs who is not on the card
+pub runs-on-card : (c : Card) → Settled c → (t : ℕ) → c .running ≡ some t → (v : Vcpu) × (Among v (c .vcpus)) × (v .terms .tunnel ≡ t)
+runs-on-card c s t e = go (choose (c .vcpus)) refl (sym (s .runs-chosen) ∙ e)
+  where
+    go : (o : Option Vcpu) → choose (c .vcpus) ≡ o → runs o ≡ some t → (v : Vcpu) × (Among v (c .vcpus)) × (v .terms .tunnel ≡ t)
+    go none f g = no-some g
+    go (some w) f g = (w, chosen (c .vcpus) w f .on-card, (cc))

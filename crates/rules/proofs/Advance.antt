@@ -1,0 +1,249 @@
+-- Steps 1 and 2 of an accepted call: d ticks pass, the one that held the core is charged, and what is due returns.
+-- Assumes that the ticks held are no more than the usable ones, and that who runs is on the card.
+use mathlib.Core.Path.{_≡_, refl, ap, sym, _∙_, subst}
+use mathlib.Core.Bool.{Bool, true, false, cond, _&&_, _||_}
+use mathlib.Core.List.{List, [], _∷_, map}
+use mathlib.Core.Logic.{_⊎_, ⊎-elim}
+use mathlib.Core.Option.{Option, none, some}
+use Prim.Native.Nat.{ℕ, suc, _+_, _-_, _≤_}
+use native.Mathlib.Omega.{arith}
+use lib.Dec.{ltb, eqb}
+use lib.ListN.{length, length-map}
+use borrow.Author.Tests.{eq-eqb}
+use Rattle.rules.specs.Lists.{any, count, All, Among}
+use Rattle.rules.specs.Vcpu.{Vcpu, named}
+use Rattle.rules.specs.Card.{Card, onCard}
+use Rattle.rules.specs.Charge.{charge, noTicks, chargedSome, charged, folds}
+use Rattle.rules.specs.Return.{bring, returned}
+use Rattle.rules.specs.Change.{Change, admit, wake, block, remove, tick}
+use Rattle.rules.specs.Refuse.{callRows}
+use Rattle.rules.specs.Turn.{afterReturn}
+use Rattle.rules.specs.History.{ticks, holds, isIdle}
+use Rattle.rules.specs.Stays.{Stay, lasts, lastsAs, foldsAt, withFold, owns, held, EachTick, owners}
+use Rattle.rules.proofs.Tests.{clash, cases, and-true, or-false}
+use Rattle.rules.proofs.Named.{named-says, is-named}
+use Rattle.rules.proofs.Lists.{all-imp, all-map, all-map-both, all-map-among, all-among, any-among, any-same, some-one, count-same, count-among, count-none, length-ticks}
+use Rattle.rules.proofs.Queue.{Rising}
+use Rattle.rules.proofs.Sound.{Sound, kept-charged, sound-returned}
+use Rattle.rules.proofs.Tied.{Tied, tied-return, tied-folded, tied-idle, tied-charged, within-charged}
+use Rattle.rules.proofs.Window.{Within, within-idle}
+use Rattle.rules.proofs.Held.{Dated, length-held, held-fold, owns-now, held-more, each-imp, each-more}
+use Rattle.rules.proofs.Lawful.{Pair, Paired, Bounded, Lawful}
+
+-- what steps 1 and 2 do to one VCPU
+abbrev pub stepped : ℕ → ℕ → Option ℕ → Vcpu → Vcpu
+stepped last now running v = returned now (cond (holds (v .terms .tunnel) running) (charged last now v) v)
+
+pub each-stepped : (c : Card) (now : ℕ) → afterReturn c now ≡ map (stepped (c .last) now (c .running)) (c .vcpus)
+each-stepped c now = go (c .running) (c .vcpus)
+  where
+    go : (o : Option ℕ) (vs : List Vcpu) → bring now (charge (c .last) now o vs) ≡ map (stepped (c .last) now o) vs
+    go none vs = refl
+    go (some t) [] = refl
+    go (some t) (v ∷ vs) = ap (λ (l : List Vcpu). stepped (c .last) now (some t) v ∷ l) (go (some t) vs)
+
+terms-charged : (last now : ℕ) (v : Vcpu) → charged last now v .terms ≡ v .terms
+unfolding charged
+terms-charged last now v = go (noTicks last now)
+  where
+    go : (b : Bool) → cond b v (chargedSome last now v) .terms ≡ v .terms
+    go true = refl
+    go false = refl
+
+pub terms-stepped : (last now : ℕ) (o : Option ℕ) (v : Vcpu) → stepped last now o v .terms ≡ v .terms
+terms-stepped last now o v = go (holds (v .terms .tunnel) o)
+  where
+    go : (b : Bool) → cond b (charged last now v) v .terms ≡ v .terms
+    go true = terms-charged last now v
+    go false = refl
+
+-- the call's own rows may be judged before these steps or after them
+pub rows-stepped : (c : Card) (now : ℕ) (asked : Change) → callRows (afterReturn c now) asked ≡ callRows (c .vcpus) asked
+rows-stepped c now asked = rw (each-stepped c now) (go asked)
+  where
+    step : Vcpu → Vcpu
+    step = stepped (c .last) now (c .running)
+
+    there : (t : ℕ) → onCard t (map step (c .vcpus)) ≡ onCard t (c .vcpus)
+    there t = any-same (named t) (named t) step (c .vcpus) (λ v. ap (λ x. eqb (x .tunnel) t) (terms-stepped (c .last) now (c .running) v))
+
+    go : (asked : Change) → callRows (map step (c .vcpus)) asked ≡ callRows (c .vcpus) asked
+    go (admit d) = rw (there (d .tunnel), length-map (c .vcpus) step)
+    go (wake t) = rw (there t)
+    go (block t) = rw (there t)
+    go (remove t) = rw (there t)
+    go tick = refl
+
+module _ (c : Card) (d : ℕ) (ss : List Stay) (h : List (Option ℕ)) (l : Lawful (c .last) (c .vcpus) ss h)
+    (pace : All (λ v. holds (v .terms .tunnel) (c .running) ≡ true → d ≤ v .usable) (c .vcpus))
+    (there : (t : ℕ) → c .running ≡ some t → count (named t) (c .vcpus) ≡ 1) where
+  abbrev step : Vcpu → Vcpu
+  step = stepped (c .last) (c .last + d) (c .running)
+
+  sound-step : (v : Vcpu) → Sound (c .last) v → (holds (v .terms .tunnel) (c .running) ≡ true → d ≤ v .usable) → Sound (c .last + d) (step v)
+  sound-step v s p = ⊎-elim ran (λ e. waited e) (cases (holds (v .terms .tunnel) (c .running)))
+    where
+      ran : holds (v .terms .tunnel) (c .running) ≡ true → Sound (c .last + d) (stepped (c .last) (c .last + d) (c .running) v)
+      ran e =
+          rw e
+          (sound-returned (suc (c .last)) (c .last + v .terms .period) (c .last + d) (charged (c .last) (c .last + d) v)
+          (omega (arith, ap (λ x. x .period) (terms-charged (c .last) (c .last + d) v)))
+          (kept-charged (c .last) d v (p e) s))
+
+      waited : holds (v .terms .tunnel) (c .running) ≡ false → Sound (c .last + d) (stepped (c .last) (c .last + d) (c .running) v)
+      waited e =
+          rw e
+          (sound-returned (suc (c .last)) (c .last + v .terms .period) (c .last + d) v (omega arith)
+          (record { range = s .range; whole = s .whole; order = s .order; few = s .few; used = omega (arith, s .used) }))
+
+  -- the ticks of a stay that lasts: all d, or none
+  held-step : (s : Stay) (b : Bool) → Dated (c .last) s → lasts (s .until) ≡ true → holds (s .terms .tunnel) (c .running) ≡ b
+      → held (withFold c (c .last + d) s) (ticks d (c .running) h) ≡ ticks d b (held s h)
+  held-step s b g u e =
+      held-fold c (c .last + d) s (ticks d (c .running) h)
+      ∙ held-more s (c .running) (c .last) d h g (omega (arith, l .long))
+      ∙ ap (λ (x : Bool). ticks d x (held s h)) (rw (u, e))
+
+  -- a VCPU before its return, and what ties it to its stay
+  pair-return : (s : Stay) (b f : Bool) (w : Vcpu) (low high : ℕ) → w .terms ≡ s .terms → Rising low high (w .pending)
+      → held (withFold c (c .last + d) s) (ticks d (c .running) h) ≡ ticks d b (held s h)
+      → (withFold c (c .last + d) s .folded ≡ false → f ≡ false)
+      → Tied (w .terms .period) (c .last + d) (w .ended) (w .pending) (ticks d b (held s h)) f
+      → Pair (c .last + d) (withFold c (c .last + d) s) (returned (c .last + d) w) (ticks d (c .running) h)
+  pair-return s b f w low high e r g i t =
+      record {
+        same-terms = e;
+        tied = rw g
+            (tied-folded (w .terms .period) (c .last + d) (w .ended) _ (ticks d b (held s h)) f (withFold c (c .last + d) s .folded) i
+            (tied-return (w .terms .period) (c .last + d) (w .ended) low high (w .pending) (ticks d b (held s h)) f r t));
+      }
+
+  -- where the call makes its queue fold, the stay says so
+  fold-said : (s : Stay) (v : Vcpu) → Among v (c .vcpus) → v .terms .tunnel ≡ s .terms .tunnel → lasts (s .until) ≡ true
+      → holds (s .terms .tunnel) (c .running) ≡ true → withFold c (c .last + d) s .folded ≡ false
+      → s .folded || (ltb (c .last) (c .last + d) && folds (c .last) v) ≡ false
+  fold-said s v m e u r f =
+      let p = or-false (s .folded) (lasts (s .until) && foldsAt c (c .last + d) (s .terms .tunnel)) f in
+      rw (p .0)
+      (⊎-elim (λ y. clash (sym (all-true y) ∙ p .1)) (λ y. y) (cases (ltb (c .last) (c .last + d) && folds (c .last) v)))
+    where
+      all-true : ltb (c .last) (c .last + d) && folds (c .last) v ≡ true → lasts (s .until) && foldsAt c (c .last + d) (s .terms .tunnel) ≡ true
+      all-true y =
+          let q = and-true (ltb (c .last) (c .last + d)) (folds (c .last) v) y in
+          let a : any (λ v. named (s .terms .tunnel) v && folds (c .last) v) (c .vcpus) ≡ true =
+          any-among (λ v. named (s .terms .tunnel) v && folds (c .last) v) (c .vcpus) v m (rw (is-named (s .terms .tunnel) v e, q .1)) in
+          rw (u, r, q .0, a)
+
+  pair-step : (s : Stay) (v : Vcpu) → Dated (c .last) s → lasts (s .until) ≡ true → Among v (c .vcpus) → v .terms .tunnel ≡ s .terms .tunnel
+      → Pair (c .last) s v h → Pair (c .last + d) (withFold c (c .last + d) s) (step v) (ticks d (c .running) h)
+  pair-step s v g u m e p = ⊎-elim ran waited (cases (holds (v .terms .tunnel) (c .running)))
+    where
+      n : length (held s h) ≡ c .last
+      n = length-held s h ∙ l .long
+
+      sv : Sound (c .last) v
+      sv = all-among (Sound (c .last)) (c .vcpus) (l .sound) v m
+
+      ran : holds (v .terms .tunnel) (c .running) ≡ true
+          → Pair (c .last + d) (withFold c (c .last + d) s) (stepped (c .last) (c .last + d) (c .running) v) (ticks d (c .running) h)
+      ran r =
+          let k = all-among (λ v. holds (v .terms .tunnel) (c .running) ≡ true → d ≤ v .usable) (c .vcpus) pace v m r in
+          let r′ : holds (s .terms .tunnel) (c .running) ≡ true = subst (λ (t : ℕ). holds t (c .running) ≡ true) e r in
+          let w = charged (c .last) (c .last + d) v in
+          let tw : charged (c .last) (c .last + d) v .terms ≡ v .terms = terms-charged (c .last) (c .last + d) v in
+          rw r
+          (pair-return s true (s .folded || (ltb (c .last) (c .last + d) && folds (c .last) v)) (charged (c .last) (c .last + d) v)
+          (suc (c .last)) (c .last + v .terms .period) (tw ∙ p .same-terms) (kept-charged (c .last) d v k sv .order)
+          (held-step s true g u r′) (fold-said s v m e u r′)
+          (rw tw (tied-charged (c .last) d v (held s h) (s .folded) n sv k (p .tied))))
+
+      waited : holds (v .terms .tunnel) (c .running) ≡ false
+          → Pair (c .last + d) (withFold c (c .last + d) s) (stepped (c .last) (c .last + d) (c .running) v) (ticks d (c .running) h)
+      waited r =
+          let r′ : holds (s .terms .tunnel) (c .running) ≡ false = subst (λ (t : ℕ). holds t (c .running) ≡ false) e r in
+          rw r
+          (pair-return s false (s .folded) v (suc (c .last)) (c .last + v .terms .period) (p .same-terms) (sv .order)
+          (held-step s false g u r′) (λ f. or-false (s .folded) (lasts (s .until) && foldsAt c (c .last + d) (s .terms .tunnel)) f .0)
+          (tied-idle (v .terms .period) (c .last) d (v .ended) (v .pending) (held s h) (s .folded) (sv .used) (p .tied)))
+
+  paired-step : (s : Stay) → Dated (c .last) s → Paired (c .last) (c .vcpus) h s
+      → Paired (c .last + d) (map step (c .vcpus)) (ticks d (c .running) h) (withFold c (c .last + d) s)
+  paired-step s g p u =
+      all-map-among (λ v. v .terms .tunnel ≡ s .terms .tunnel → Pair (c .last) s v h)
+      (λ v. v .terms .tunnel ≡ s .terms .tunnel → Pair (c .last + d) (withFold c (c .last + d) s) v (ticks d (c .running) h)) step (c .vcpus)
+      (λ v m q e. pair-step s v g u m (same v e) (q (same v e))) (p u)
+    where
+      same : (v : Vcpu) → step v .terms .tunnel ≡ s .terms .tunnel → v .terms .tunnel ≡ s .terms .tunnel
+      same v e = ap (λ x. x .tunnel) (sym (terms-stepped (c .last) (c .last + d) (c .running) v)) ∙ e
+
+  -- the VCPU of a stay that lasts
+  its-vcpu : (s : Stay) → Among s ss → lasts (s .until) ≡ true → (v : Vcpu) × (Among v (c .vcpus)) × (v .terms .tunnel ≡ s .terms .tunnel)
+  its-vcpu s m u =
+      let k : 1 ≤ count (named (s .terms .tunnel)) (c .vcpus) =
+      omega (arith, l .on-card (s .terms .tunnel), count-among (lastsAs (s .terms .tunnel)) ss s m (rw (u, eq-eqb (s .terms .tunnel) (s .terms .tunnel) refl))) in
+      let p = some-one (named (s .terms .tunnel)) (c .vcpus) k in
+      (p .0, p .1, named-says (s .terms .tunnel) (p .0) (p .2))
+
+  bounded-step : (s : Stay) → Among s ss → Bounded h s → Bounded (ticks d (c .running) h) (withFold c (c .last + d) s)
+  bounded-step s m w = ⊎-elim here gone (cases (lasts (s .until)))
+    where
+      g : Dated (c .last) s
+      g = all-among (Dated (c .last)) ss (l .dated) s m
+
+      gone : lasts (s .until) ≡ false → Bounded (ticks d (c .running) h) (withFold c (c .last + d) s)
+      gone u =
+          rw (held-fold c (c .last + d) s (ticks d (c .running) h), held-more s (c .running) (c .last) d h g (omega (arith, l .long)), u)
+          (within-idle (s .terms .period) (s .terms .capacity) d (held s h) w)
+
+      here : lasts (s .until) ≡ true → Bounded (ticks d (c .running) h) (withFold c (c .last + d) s)
+      here u = ⊎-elim ran waited (cases (holds (s .terms .tunnel) (c .running)))
+        where
+          waited : holds (s .terms .tunnel) (c .running) ≡ false → Bounded (ticks d (c .running) h) (withFold c (c .last + d) s)
+          waited r = rw (held-step s false g u r) (within-idle (s .terms .period) (s .terms .capacity) d (held s h) w)
+
+          ran : holds (s .terms .tunnel) (c .running) ≡ true → Bounded (ticks d (c .running) h) (withFold c (c .last + d) s)
+          ran r =
+              let v = its-vcpu s m u in
+              let p : Pair (c .last) s (v .0) h = all-among (λ v. v .terms .tunnel ≡ s .terms .tunnel → Pair (c .last) s v h) (c .vcpus)
+              (all-among (Paired (c .last) (c .vcpus) h) ss (l .paired) s m u) (v .0) (v .1) (v .2) in
+              let k : d ≤ v .0 .usable = all-among (λ v. holds (v .terms .tunnel) (c .running) ≡ true → d ≤ v .usable) (c .vcpus) pace (v .0) (v .1)
+              (subst (λ (t : ℕ). holds t (c .running) ≡ true) (sym (v .2)) r) in
+              rw (held-step s true g u r)
+              (subst (λ x. Within (x .period) (x .capacity) (held s h) → Within (x .period) (x .capacity) (ticks d true (held s h))) (p .same-terms)
+              (within-charged (c .last) d (v .0) (held s h) (s .folded) (length-held s h ∙ l .long)
+              (all-among (Sound (c .last)) (c .vcpus) (l .sound) (v .0) (v .1)) k (p .tied)) w)
+
+  owned-step : EachTick (λ o n. owners (map (withFold c (c .last + d)) ss) o n ≡ 1) (ticks d (c .running) h)
+  owned-step =
+      each-more _ d (c .running) h (λ n k. new (c .running) refl n (omega (arith, l .long)))
+      (each-imp (λ o n. owners ss o n ≡ 1) _ h (λ o n k e. ap (λ (x : ℕ). cond (isIdle o) 1 0 + x) (old o n) ∙ e) (l .owned))
+    where
+      old : (o : Option ℕ) (n : ℕ) → count (λ s. owns s o n) (map (withFold c (c .last + d)) ss) ≡ count (λ s. owns s o n) ss
+      old o n = count-same (λ s. owns s o n) (λ s. owns s o n) (withFold c (c .last + d)) ss (all-imp (λ s g. refl) ss (l .dated))
+
+      new : (o : Option ℕ) → c .running ≡ o → (n : ℕ) → c .last ≤ n → owners (map (withFold c (c .last + d)) ss) o n ≡ 1
+      new none e n k = rw (old none n) (omega (arith, count-none (λ s. owns s none n) ss (all-imp (λ s g. refl) ss (l .dated))))
+      new (some t) e n k =
+          omega (arith, old (some t) n, counted ss (l .dated), l .on-card t, there t e)
+        where
+          counted : (ss : List Stay) → All (Dated (c .last)) ss → count (λ s. owns s (some t) n) ss ≡ count (lastsAs t) ss
+          counted [] g = refl
+          counted (s ∷ ss) g = rw (owns-now s (some t) (c .last) n (g .0) k, counted ss (g .1))
+
+  pub advance : Lawful (c .last + d) (afterReturn c (c .last + d)) (map (withFold c (c .last + d)) ss) (ticks d (c .running) h)
+  advance =
+      rw (each-stepped c (c .last + d))
+      (record {
+        sound = all-map-both (Sound (c .last + d)) step sound-step (c .vcpus) (l .sound) pace;
+        once = λ t. omega (arith, same t, l .once t);
+        few = omega (arith, length-map (c .vcpus) step, l .few);
+        long = omega (arith, length-ticks d (c .running) h, l .long);
+        on-card = λ t. count-same (lastsAs t) (lastsAs t) (withFold c (c .last + d)) ss (all-imp (λ s g. refl) ss (l .dated)) ∙ l .on-card t ∙ sym (same t);
+        dated = all-map (Dated (c .last + d)) (withFold c (c .last + d)) (λ s g. record { began = omega (arith, g .began); over = λ r e. omega (arith, g .over r e) }) ss (l .dated);
+        paired = all-map-both (Paired (c .last + d) (map step (c .vcpus)) (ticks d (c .running) h)) (withFold c (c .last + d)) paired-step ss (l .dated) (l .paired);
+        bounded = all-map-among (Bounded h) (Bounded (ticks d (c .running) h)) (withFold c (c .last + d)) ss bounded-step (l .bounded);
+        owned = owned-step;
+      })
+    where
+      same : (t : ℕ) → count (named t) (map step (c .vcpus)) ≡ count (named t) (c .vcpus)
+      same t = count-same (named t) (named t) step (c .vcpus) (all-imp (λ v s. ap (λ x. eqb (x .tunnel) t) (terms-stepped (c .last) (c .last + d) (c .running) v)) (c .vcpus) (l .sound))

@@ -1,0 +1,118 @@
+-- Small histories, computed: the stays, what each held in the latest window of its period, and the usable ticks. Each has a line of the
+-- rules whose breach it shows: what would be held or usable then stands beside it. Assumes nothing.
+use mathlib.Core.Path.{_≡_, refl}
+use mathlib.Core.Bool.{Bool, true, false}
+use mathlib.Core.List.{List, [], _∷_, map}
+use mathlib.Core.Option.{Option, none, some}
+use Prim.Native.Nat.{ℕ, zero, suc, _+_}
+use Rattle.rules.specs.Vcpu.{Description, moreUrgent}
+use Rattle.rules.specs.Charge.{posted, charged}
+use Rattle.rules.specs.Change.{Change, admit, wake, block, remove, tick}
+use Rattle.rules.specs.Timer.{timer}
+use Rattle.rules.specs.Refuse.{refusal}
+use Rattle.rules.specs.Turn.{Call, turn, settled}
+use Rattle.rules.specs.History.{after, past, idleTicks}
+use Rattle.rules.specs.Stays.{stays, held, heldTicks, window}
+
+abbrev pub at : ℕ → Change → Call
+at now asked = record { now = now; asked = asked }
+
+-- of each stay: begun, removed, folded, and the ticks held in the latest window
+pub record Figures : Type 0 where
+  pub from : ℕ
+  pub until : Option ℕ
+  pub folded : Bool
+  pub latest : ℕ
+
+abbrev figures : ℕ → Option ℕ → Bool → ℕ → Figures
+figures from until folded latest = record { from = from; until = until; folded = folded; latest = latest }
+
+abbrev figuresOf : List Call → List Figures
+figuresOf calls =
+    map (λ s. figures (s .from) (s .until) (s .folded) (heldTicks (window (s .terms .period) 0 (held s (past calls))))) (stays calls)
+
+abbrev usableOf : List Call → List ℕ
+usableOf calls = map (λ v. v .usable) (after calls .vcpus)
+
+abbrev tenant : ℕ → ℕ → Description
+tenant period capacity = record { tunnel = 2; period = period; capacity = capacity; priority = 2 }
+
+-- T 10, C 3, from 0 to 3, asked at 10: the return is due one period after the slice's start. From its end, none would be usable.
+abbrev back : List Call
+back = at 10 tick ∷ at 3 tick ∷ at 0 (wake 2) ∷ at 0 (admit (tenant 10 3)) ∷ []
+
+pub back-held : figuresOf back ≡ figures 0 none false 3 ∷ []
+unfolding turn refusal settled timer moreUrgent charged posted
+back-held = refl
+
+pub back-usable : usableOf back ≡ 3 ∷ []
+unfolding turn refusal settled timer moreUrgent charged posted
+back-usable = refl
+
+-- the same with a call at each moment: calls do not break a slice. With a new entry at each call, 1 would be usable.
+abbrev steady : List Call
+steady = at 10 tick ∷ at 3 tick ∷ at 2 tick ∷ at 1 tick ∷ at 0 (wake 2) ∷ at 0 (admit (tenant 10 3)) ∷ []
+
+pub steady-usable : usableOf steady ≡ 3 ∷ []
+unfolding turn refusal settled timer moreUrgent charged posted
+steady-usable = refl
+
+-- T 10, C 3, one tick at 0 and, after a gap, two from 7 on. Joined to the first entry these would be back at 10, and 5 held in a window.
+abbrev gap : List Call
+gap =
+    at 13 tick
+    ∷ at 11 tick
+    ∷ at 10 tick
+    ∷ at 9 tick
+    ∷ at 7 (wake 2)
+    ∷ at 1 (block 2)
+    ∷ at 0 (wake 2)
+    ∷ at 0 (admit (tenant 10 3))
+    ∷ []
+
+pub gap-held : figuresOf gap ≡ figures 0 none false 3 ∷ []
+unfolding turn refusal settled timer moreUrgent charged posted
+gap-held = refl
+
+-- T 20, C 9, one tick at each even moment from 0 to 16: the ninth folds. Where the last entry kept its time, 10 would be held in a window.
+abbrev short : ℕ → List Call → List Call
+short now calls = at (now + 1) (block 2) ∷ at now (wake 2) ∷ calls
+
+abbrev full : List Call
+full =
+    short 16
+    (short 14
+    (short 12 (short 10 (short 8 (short 6 (short 4 (short 2 (short 0 (at 0 (admit (tenant 20 9)) ∷ [])))))))))
+
+-- a tick at each moment, from one on
+abbrev ticking : ℕ → ℕ → List Call → List Call
+ticking from zero calls = calls
+ticking from (suc n) calls = at (from + n) tick ∷ ticking from n calls
+
+abbrev fold : List Call
+fold = ticking 21 16 (at 20 (wake 2) ∷ full)
+
+pub fold-held : figuresOf fold ≡ figures 0 none true 8 ∷ []
+unfolding turn refusal settled timer moreUrgent charged posted
+fold-held = refl
+
+-- removed and admitted at one moment: two stays, whose ticks are counted apart; the other three ticks were idle
+abbrev again : List Call
+again =
+    at 9 tick
+    ∷ at 8 tick
+    ∷ at 5 (wake 2)
+    ∷ at 5 (admit (tenant 10 3))
+    ∷ at 5 (remove 2)
+    ∷ at 3 tick
+    ∷ at 0 (wake 2)
+    ∷ at 0 (admit (tenant 10 3))
+    ∷ []
+
+pub again-held : figuresOf again ≡ figures 5 none false 3 ∷ figures 0 (some 5) false 3 ∷ []
+unfolding turn refusal settled timer moreUrgent charged posted
+again-held = refl
+
+pub again-idle : idleTicks (past again) ≡ 3
+unfolding turn refusal settled timer moreUrgent charged posted
+again-idle = refl

@@ -1,0 +1,25 @@
+-- The theorems about the rules (Meaning, Demand3, Carried), computed examples (Case, Examples, HeadEntry), and the laws that carry them.
+-- Assumes nothing.
+pub mod Demand3
+pub mod Meaning
+pub mod Carried
+pub mod Case
+pub mod Examples
+pub mod HeadEntry
+pub mod Tests
+pub mod Lists
+pub mod Named
+pub mod Urgency
+pub mod Choice
+pub mod Timer
+pub mod Slices
+pub mod Window
+pub mod Queue
+pub mod Sound
+pub mod Tied
+pub mod Accepted
+pub mod Held
+pub mod Lawful
+pub mod Advance
+pub mod Changed
+pub mod Reached

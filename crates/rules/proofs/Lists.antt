@@ -1,0 +1,162 @@
+-- Laws of the words on lists: a fact of every one, membership, keeping, counting, sums, and a map.
+-- Assumes nothing.
+use mathlib.Core.Path.{_≡_, refl, sym, _∙_, subst}
+use mathlib.Core.Bool.{Bool, true, false, cond, _||_}
+use mathlib.Core.List.{List, [], _∷_, _++_, map}
+use mathlib.Core.Logic.{_⊎_, inl, inr}
+use Prim.Native.Nat.{ℕ, zero, suc, _+_, _≤_}
+use native.Mathlib.Omega.{arith}
+use lib.ListN.{length}
+use Rattle.rules.specs.Lists.{keep, any, count, sum, All, Among}
+use Rattle.rules.specs.History.{ticks}
+use Rattle.rules.proofs.Tests.{clash, or-false, or-true}
+
+module _ {A : Type 0} where
+  pub all-imp : {P Q : A → Type 0} → ((a : A) → P a → Q a) → (l : List A) → All P l → All Q l
+  all-imp f [] h = tt
+  all-imp f (a ∷ l) h = (f a (h .0), all-imp f l (h .1))
+
+  pub all-both : {P Q R : A → Type 0} → ((a : A) → P a → Q a → R a) → (l : List A) → All P l → All Q l → All R l
+  all-both f [] h k = tt
+  all-both f (a ∷ l) h k = (f a (h .0) (k .0), all-both f l (h .1) (k .1))
+
+  pub all-every : {P : A → Type 0} → ((a : A) → P a) → (l : List A) → All P l
+  all-every f [] = tt
+  all-every f (a ∷ l) = (f a, all-every f l)
+
+  pub all-map : {B : Type 0} {P : A → Type 0} (Q : B → Type 0) (g : A → B) → ((a : A) → P a → Q (g a)) → (l : List A) → All P l → All Q (map g l)
+  all-map Q g f [] h = tt
+  all-map Q g f (a ∷ l) h = (f a (h .0), all-map Q g f l (h .1))
+
+  pub all-map-both : {B : Type 0} {P Q : A → Type 0} (R : B → Type 0) (g : A → B) → ((a : A) → P a → Q a → R (g a)) → (l : List A)
+      → All P l → All Q l → All R (map g l)
+  all-map-both R g f [] h k = tt
+  all-map-both R g f (a ∷ l) h k = (f a (h .0) (k .0), all-map-both R g f l (h .1) (k .1))
+
+  pub all-map-among : {B : Type 0} (P : A → Type 0) (R : B → Type 0) (g : A → B) (l : List A) → ((a : A) → Among a l → P a → R (g a))
+      → All P l → All R (map g l)
+  all-map-among P R g [] f h = tt
+  all-map-among P R g (a ∷ l) f h = (f a (inl refl) (h .0), all-map-among P R g l (λ b m. f b (inr m)) (h .1))
+
+  pub all-among : (P : A → Type 0) (l : List A) → All P l → (a : A) → Among a l → P a
+  all-among P (b ∷ l) h a (inl e) = subst P (sym e) (h .0)
+  all-among P (b ∷ l) h a (inr m) = all-among P l (h .1) a m
+
+  pub among-all : (P : A → Type 0) (l : List A) → ((a : A) → Among a l → P a) → All P l
+  among-all P [] f = tt
+  among-all P (b ∷ l) f = (f b (inl refl), among-all P l (λ a m. f a (inr m)))
+
+  pub all-keep : (P : A → Type 0) (test : A → Bool) (l : List A) → All P l → All P (keep test l)
+  all-keep P test [] h = tt
+  all-keep P test (a ∷ l) h = go (test a) (all-keep P test l (h .1))
+    where
+      go : (t : Bool) → All P (keep test l) → All P (cond t (a ∷ keep test l) (keep test l))
+      go true k = (h .0, k)
+      go false k = k
+
+  pub among-keep : (test : A → Bool) (l : List A) (a : A) → Among a (keep test l) → Among a l × (test a ≡ true)
+  among-keep test (b ∷ l) a m = go (test b) refl (λ k. among-keep test l a k) m
+    where
+      go : (t : Bool) → test b ≡ t → (Among a (keep test l) → Among a l × (test a ≡ true))
+          → Among a (cond t (b ∷ keep test l) (keep test l)) → ((a ≡ b) ⊎ Among a l) × (test a ≡ true)
+      go true e ih (inl f) = (inl f, rw f e)
+      go true e ih (inr k) = (inr (ih k .0), ih k .1)
+      go false e ih k = (inr (ih k .0), ih k .1)
+
+  pub keep-among : (test : A → Bool) (l : List A) (a : A) → Among a l → test a ≡ true → Among a (keep test l)
+  keep-among test (b ∷ l) a (inl f) e = rw (subst (λ (x : A). test x ≡ true) f e) (inl f)
+  keep-among test (b ∷ l) a (inr m) e = go (test b) (keep-among test l a m e)
+    where
+      go : (t : Bool) → Among a (keep test l) → Among a (cond t (b ∷ keep test l) (keep test l))
+      go true k = inr k
+      go false k = k
+
+  -- what holds of all that are kept holds of all that pass
+  pub all-kept : (P : A → Type 0) (test : A → Bool) (l : List A) → All P (keep test l) → All (λ a. test a ≡ true → P a) l
+  all-kept P test l h = among-all _ l (λ a m e. all-among P (keep test l) h a (keep-among test l a m e))
+
+  pub none-kept : (test : A → Bool) (l : List A) → keep test l ≡ [] → All (λ a. test a ≡ false) l
+  none-kept test [] e = tt
+  none-kept test (a ∷ l) e = go (test a) refl (λ f. none-kept test l f) e
+    where
+      go : (t : Bool) → test a ≡ t → (keep test l ≡ [] → All (λ b. test b ≡ false) l) → cond t (a ∷ keep test l) (keep test l) ≡ [] → (test a ≡ false) × All (λ b. test b ≡ false) l
+      go true f ih e = let z : _≡_ {A = ℕ} 0 1 = cc in absurd (omega arith)
+      go false f ih e = (f, ih e)
+
+  pub keeps-none : (test : A → Bool) (l : List A) → All (λ a. test a ≡ false) l → keep test l ≡ []
+  keeps-none test [] h = refl
+  keeps-none test (a ∷ l) h = rw (h .0) (keeps-none test l (h .1))
+
+  pub count-none : (test : A → Bool) (l : List A) → All (λ a. test a ≡ false) l → count test l ≡ 0
+  count-none test [] h = refl
+  count-none test (a ∷ l) h = rw (h .0) (omega (arith, count-none test l (h .1)))
+
+  pub count-any : (test : A → Bool) (l : List A) → any test l ≡ false → count test l ≡ 0
+  count-any test [] h = refl
+  count-any test (a ∷ l) h =
+      let p : (test a ≡ false) × (any test l ≡ false) = or-false (test a) (any test l) h in
+      rw (p .0) (omega (arith, count-any test l (p .1)))
+
+  pub any-false : (test : A → Bool) (l : List A) → any test l ≡ false → All (λ a. test a ≡ false) l
+  any-false test [] h = tt
+  any-false test (a ∷ l) h =
+      let p : (test a ≡ false) × (any test l ≡ false) = or-false (test a) (any test l) h in
+      (p .0, any-false test l (p .1))
+
+  pub any-among : (test : A → Bool) (l : List A) (a : A) → Among a l → test a ≡ true → any test l ≡ true
+  any-among test (b ∷ l) a (inl f) e = rw (subst (λ (x : A). test x ≡ true) f e)
+  any-among test (b ∷ l) a (inr m) e = rw (any-among test l a m e) (go (test b))
+    where
+      go : (t : Bool) → t || true ≡ true
+      go true = refl
+      go false = refl
+
+  pub any-one : (test : A → Bool) (l : List A) → any test l ≡ true → (a : A) × Among a l × (test a ≡ true)
+  any-one test [] e = clash (sym e)
+  any-one test (b ∷ l) e = go (or-true (test b) (any test l) e) (λ f. any-one test l f)
+    where
+      go : (test b ≡ true) ⊎ (any test l ≡ true) → (any test l ≡ true → (a : A) × Among a l × (test a ≡ true))
+          → (a : A) × Among a (b ∷ l) × (test a ≡ true)
+      go (inl f) ih = (b, inl refl, f)
+      go (inr f) ih = let p = ih f in (p .0, inr (p .1), p .2)
+
+  pub count-among : (test : A → Bool) (l : List A) (a : A) → Among a l → test a ≡ true → 1 ≤ count test l
+  count-among test (b ∷ l) a (inl f) e = rw (subst (λ (x : A). test x ≡ true) f e) (omega arith)
+  count-among test (b ∷ l) a (inr m) e = omega (arith, count-among test l a m e)
+
+  pub some-one : (test : A → Bool) (l : List A) → 1 ≤ count test l → (a : A) × (Among a l) × (test a ≡ true)
+  some-one test [] h = absurd (omega arith)
+  some-one test (b ∷ l) h = go (test b) refl h (λ k. some-one test l k)
+    where
+      go : (t : Bool) → test b ≡ t → 1 ≤ cond t 1 0 + count test l → (1 ≤ count test l → (a : A) × (Among a l) × (test a ≡ true))
+          → (a : A) × (Among a (b ∷ l)) × (test a ≡ true)
+      go true e k ih = (b, inl refl, e)
+      go false e k ih = let p = ih (omega arith) in (p .0, inr (p .1), p .2)
+
+  -- the same tests all along, the same count
+  pub count-same : {B : Type 0} (test : A → Bool) (test′ : B → Bool) (g : A → B) (l : List A) → All (λ a. test′ (g a) ≡ test a) l → count test′ (map g l) ≡ count test l
+  count-same test test′ g [] h = refl
+  count-same test test′ g (a ∷ l) h = rw (h .0, count-same test test′ g l (h .1))
+
+  pub any-same : {B : Type 0} (test : A → Bool) (test′ : B → Bool) (g : A → B) (l : List A) → ((a : A) → test′ (g a) ≡ test a) → any test′ (map g l) ≡ any test l
+  any-same test test′ g [] h = refl
+  any-same test test′ g (a ∷ l) h = rw (h a, any-same test test′ g l h)
+
+  -- of those that pass, at most one is there: two of them are the same
+  pub only-one : (test : A → Bool) (l : List A) → count test l ≤ 1 → (a b : A) → Among a l → Among b l → test a ≡ true → test b ≡ true → a ≡ b
+  only-one test (c ∷ l) h a b (inl e) (inl f) p q = e ∙ sym f
+  only-one test (c ∷ l) h a b (inl e) (inr n) p q =
+      let t : test c ≡ true = subst (λ (x : A). test x ≡ true) e p in
+      absurd (omega (arith, count-among test l b n q, rw t at h))
+  only-one test (c ∷ l) h a b (inr m) (inl f) p q =
+      let t : test c ≡ true = subst (λ (x : A). test x ≡ true) f q in
+      absurd (omega (arith, count-among test l a m p, rw t at h))
+  only-one test (c ∷ l) h a b (inr m) (inr n) p q = only-one test l (omega arith) a b m n p q
+
+  pub length-ticks : (d : ℕ) (a : A) (l : List A) → length (ticks d a l) ≡ d + length l
+  length-ticks zero a l = omega arith
+  length-ticks (suc d) a l = omega (arith, length-ticks d a l)
+
+  pub sum-append : (f : A → ℕ) (l k : List A) → sum f (l ++ k) ≡ sum f l + sum f k
+  sum-append f [] k = omega arith
+  sum-append f (a ∷ l) k = omega (arith, sum-append f l k)

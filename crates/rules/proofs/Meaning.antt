@@ -1,0 +1,188 @@
+-- Steps 4 and 5 and the numbers of the card, as facts of the card after any calls from the empty card.
+-- Assumes nothing.
+use mathlib.Core.Path.{_≡_, refl, ap, sym, _∙_, subst}
+use mathlib.Core.Bool.{Bool, true, false, cond, _&&_}
+use mathlib.Core.List.{List, [], _∷_}
+use mathlib.Core.Logic.{inl, inr, ⊎-elim}
+use mathlib.Core.Option.{Option, none, some}
+use Prim.Native.Nat.{ℕ, _≤_}
+use native.Mathlib.Omega.{arith}
+use lib.Dec.{ltb}
+use borrow.Author.Tests.{ltb-true, ltb-false}
+use Rattle.rules.specs.Limits.{largestTime}
+use Rattle.rules.specs.Lists.{count, All, Among}
+use Rattle.rules.specs.Vcpu.{Vcpu, named}
+use Rattle.rules.specs.Card.{Card, onCard, find}
+use Rattle.rules.specs.Choose.{ready, choose, runs, usableOf}
+use Rattle.rules.specs.Timer.{returns, earliest, timer}
+use Rattle.rules.specs.Refuse.{Refusal, refusal}
+use Rattle.rules.specs.Turn.{Call, turn, settled}
+use Rattle.rules.specs.Meaning.{Fits, Returns, NoneBefore, runnable, Runs, Meaning}
+use Rattle.rules.specs.History.{after}
+use Rattle.rules.specs.Stays.{stays}
+use Rattle.rules.specs.History.{past}
+use Rattle.rules.proofs.Tests.{clash, no-some, cases}
+use Rattle.rules.proofs.Named.{named-says, is-named, named-itself}
+use Rattle.rules.proofs.Lists.{all-imp, all-both, all-among, any-among, any-one, keeps-none, only-one}
+use Rattle.rules.proofs.Choice.{chosen, idle, nobody, only, is-ready}
+use Rattle.rules.proofs.Timer.{in-idle, no-return, while-running}
+use Rattle.rules.proofs.Queue.{total}
+use Rattle.rules.proofs.Sound.{Sound}
+use Rattle.rules.proofs.Accepted.{passed, Settled}
+use Rattle.rules.proofs.Reached.{Reached, reached, card-refused, card-accepted}
+
+time-high : (calls : List Call) → after calls .last ≤ largestTime
+unfolding settled
+time-high [] = omega arith
+time-high (call ∷ calls) = go (refusal (after calls) (call .now) (call .asked)) refl (time-high calls)
+  where
+    go : (o : Option Refusal) → refusal (after calls) (call .now) (call .asked) ≡ o → after calls .last ≤ largestTime
+        → turn (after calls) call .card .last ≤ largestTime
+    go (some r) e ih = rw (card-refused (after calls) call r e) ih
+    go none e ih = rw (card-accepted (after calls) call e) (passed (after calls) (call .now) (call .asked) e .not-above)
+
+not-ready : (v : Vcpu) → ready v ≡ false → v .runnable ≡ true → v .usable ≡ 0
+not-ready v e r =
+    ⊎-elim (λ z. clash (sym (is-ready v r (ltb-true 0 (v .usable) z)) ∙ e)) (λ z. omega (arith, ltb-false 0 (v .usable) z)) (cases (ltb 0 (v .usable)))
+
+unready : (v : Vcpu) → (v .runnable ≡ true → v .usable ≡ 0) → ready v ≡ false
+unready v f = go (v .runnable) refl
+  where
+    go : (b : Bool) → v .runnable ≡ b → b && ltb 0 (v .usable) ≡ false
+    go true e = rw (f e)
+    go false e = refl
+
+found : (t : ℕ) (vs : List Vcpu) (v : Vcpu) → find t vs ≡ some v → Among v vs × (named t v ≡ true)
+found t [] v e = no-some e
+found t (w ∷ vs) v e = go (named t w) refl e (λ f. found t vs v f)
+  where
+    go : (b : Bool) → named t w ≡ b → cond b (some w) (find t vs) ≡ some v → (find t vs ≡ some v → Among v vs × (named t v ≡ true))
+        → Among v (w ∷ vs) × (named t v ≡ true)
+    go true n f ih =
+        let q : w ≡ v = cc in
+        (inl (sym q), subst (λ (x : Vcpu). named t x ≡ true) q n)
+    go false n f ih = (inr (ih f .0), ih f .1)
+
+not-found : (t : ℕ) (vs : List Vcpu) → find t vs ≡ none → All (λ w. named t w ≡ false) vs
+not-found t [] e = tt
+not-found t (w ∷ vs) e = go (named t w) refl e (λ f. not-found t vs f)
+  where
+    go : (b : Bool) → named t w ≡ b → cond b (some w) (find t vs) ≡ none → (find t vs ≡ none → All (λ w. named t w ≡ false) vs)
+        → All (λ w. named t w ≡ false) (w ∷ vs)
+    go true n f ih = no-some (sym f)
+    go false n f ih = (n, ih f)
+
+module _ (c : Card) (s : Settled c) (once : (t : ℕ) → count (named t) (c .vcpus) ≤ 1) (sound : All (Sound (c .last)) (c .vcpus)) where
+  same-one : (v w : Vcpu) → Among v (c .vcpus) → Among w (c .vcpus) → v .terms .tunnel ≡ w .terms .tunnel → v ≡ w
+  same-one v w m n e =
+      only-one (named (w .terms .tunnel)) (c .vcpus) (once (w .terms .tunnel)) v w m n (is-named (w .terms .tunnel) v e)
+      (named-itself w)
+
+  fits-runs : (v : Vcpu) → Fits (c .vcpus) v → c .running ≡ some (v .terms .tunnel)
+  fits-runs v f = s .runs-chosen ∙ ap runs (only (c .vcpus) once v f)
+
+  runs-fits : (v : Vcpu) → Among v (c .vcpus) → c .running ≡ some (v .terms .tunnel) → Fits (c .vcpus) v
+  runs-fits v m e = go (choose (c .vcpus)) refl (sym (s .runs-chosen) ∙ e)
+    where
+      go : (o : Option Vcpu) → choose (c .vcpus) ≡ o → runs o ≡ some (v .terms .tunnel) → Fits (c .vcpus) v
+      go none f g = no-some g
+      go (some w) f g =
+          let h = chosen (c .vcpus) w f in
+          let q : w .terms .tunnel ≡ v .terms .tunnel = cc in
+          subst (λ (x : Vcpu). Fits (c .vcpus) x) (same-one w v (h .on-card) m q) h
+
+  fits-timer : (v : Vcpu) → Fits (c .vcpus) v → (t : ℕ) × (c .timer ≡ some t) × Runs (c .last) (c .vcpus) v t
+  fits-timer v f =
+      let r = while-running (c .last) (c .vcpus) v in
+      (r .0, s .timer-set ∙ ap (timer (c .last) (c .vcpus)) (only (c .vcpus) once v f) ∙ r .1, r .2)
+
+  idle-chosen : c .running ≡ none → choose (c .vcpus) ≡ none
+  idle-chosen e = go (choose (c .vcpus)) refl (sym (s .runs-chosen) ∙ e)
+    where
+      go : (o : Option Vcpu) → choose (c .vcpus) ≡ o → runs o ≡ none → choose (c .vcpus) ≡ none
+      go none f g = f
+      go (some w) f g = no-some (sym g)
+
+  idle-says : c .running ≡ none → All (λ v. v .runnable ≡ true → v .usable ≡ 0) (c .vcpus)
+  idle-says e = all-imp not-ready (c .vcpus) (idle (c .vcpus) (idle-chosen e))
+
+  idle-there : All (λ v. v .runnable ≡ true → v .usable ≡ 0) (c .vcpus) → c .running ≡ none
+  idle-there h = s .runs-chosen ∙ ap runs (nobody (c .vcpus) (all-imp unready (c .vcpus) h))
+
+  idle-timer-says : c .running ≡ none → (t : ℕ) → c .timer ≡ some t → Returns runnable (c .vcpus) t × NoneBefore runnable (c .vcpus) t
+  idle-timer-says e t f =
+      in-idle (c .last) (c .vcpus) t (sym (ap (timer (c .last) (c .vcpus)) (idle-chosen e)) ∙ sym (s .timer-set) ∙ f)
+
+  -- a runnable VCPU that is idle has all of its C ticks pending
+  no-timer-says : c .timer ≡ none → All (λ v. v .runnable ≡ false) (c .vcpus)
+  unfolding timer
+  no-timer-says e = go (choose (c .vcpus)) refl (sym (s .timer-set) ∙ e)
+    where
+      nothing : (v : Vcpu) → Sound (c .last) v → (v .runnable ≡ true → v .usable ≡ 0) × (v .runnable ≡ true → v .pending ≡ []) → v .runnable ≡ false
+      nothing v k p = ⊎-elim (λ z. absurd (omega (arith, p .0 z, k .whole, ap total (p .1 z), k .range .capacity-low))) (λ z. z) (cases (v .runnable))
+
+      go : (o : Option Vcpu) → choose (c .vcpus) ≡ o → timer (c .last) (c .vcpus) o ≡ none → All (λ v. v .runnable ≡ false) (c .vcpus)
+      go none f g =
+          all-both nothing (c .vcpus) sound
+          (all-both (λ v a b. (a, b)) (c .vcpus) (all-imp not-ready (c .vcpus) (idle (c .vcpus) f)) (no-return runnable (c .vcpus) g))
+      go (some w) f g = no-some (sym g)
+
+  no-timer-there : All (λ v. v .runnable ≡ false) (c .vcpus) → c .timer ≡ none
+  unfolding timer
+  no-timer-there h =
+      let n : choose (c .vcpus) ≡ none = nobody (c .vcpus) (all-imp (λ v e. rw e) (c .vcpus) h) in
+      s .timer-set ∙ ap (timer (c .last) (c .vcpus)) n ∙ ap (λ (l : List Vcpu). earliest (returns l)) (keeps-none runnable (c .vcpus) h)
+
+  on-card-says : (t : ℕ) → onCard t (c .vcpus) ≡ true → (v : Vcpu) × Among v (c .vcpus) × (v .terms .tunnel ≡ t)
+  on-card-says t e =
+      let p = any-one (named t) (c .vcpus) e in
+      (p .0, p .1, named-says t (p .0) (p .2))
+
+  on-card-there : (t : ℕ) → (v : Vcpu) × Among v (c .vcpus) × (v .terms .tunnel ≡ t) → onCard t (c .vcpus) ≡ true
+  on-card-there t p = any-among (named t) (c .vcpus) (p .0) (p .1) (is-named t (p .0) (p .2))
+
+  find-says : (t : ℕ) (v : Vcpu) → find t (c .vcpus) ≡ some v → Among v (c .vcpus) × (v .terms .tunnel ≡ t)
+  find-says t v e = let p = found t (c .vcpus) v e in (p .0, named-says t v (p .1))
+
+  find-there : (t : ℕ) (v : Vcpu) → Among v (c .vcpus) → v .terms .tunnel ≡ t → find t (c .vcpus) ≡ some v
+  find-there t v m e = go (find t (c .vcpus)) refl
+    where
+      go : (o : Option Vcpu) → find t (c .vcpus) ≡ o → find t (c .vcpus) ≡ some v
+      go none f =
+          clash
+          (sym (is-named t v e) ∙ all-among (λ w. named t w ≡ false) (c .vcpus) (not-found t (c .vcpus) f) v m)
+      go (some w) f =
+          let p = found t (c .vcpus) w f in
+          f ∙ ap some (same-one w v (p .0) m (named-says t w (p .1) ∙ sym e))
+
+pub meaning : (calls : List Call) → Meaning (after calls)
+meaning calls =
+    let c = after calls in
+    record {
+      runs = λ v. (λ f. (f .on-card, fits-runs (after calls) s o k v f), λ p. runs-fits (after calls) s o k v (p .0) (p .1));
+      has-timer = fits-timer (after calls) s o k;
+      idle = (idle-says (after calls) s o k, idle-there (after calls) s o k);
+      idle-timer = idle-timer-says (after calls) s o k;
+      no-timer = (no-timer-says (after calls) s o k, no-timer-there (after calls) s o k);
+      once = same-one (after calls) s o k;
+      on-card = λ t. (on-card-says (after calls) s o k t, on-card-there (after calls) s o k t);
+      finds = λ t v. (find-says (after calls) s o k t v, λ p. find-there (after calls) s o k t v (p .0) (p .1));
+      reports = λ v f. ap usableOf (only (after calls .vcpus) o v f);
+      reports-idle = λ e. ap usableOf (idle-chosen (after calls) s o k e);
+      time-high = time-high calls;
+      few-vcpus = r .lawful .few;
+      in-range = all-imp (λ v q. q .range) (after calls .vcpus) k;
+      few-pending = all-imp (λ v q. q .few) (after calls .vcpus) k;
+    }
+  where
+    r : Reached (after calls) (stays calls) (past calls)
+    r = reached calls
+
+    s : Settled (after calls)
+    s = r .settled
+
+    o : (t : ℕ) → count (named t) (after calls .vcpus) ≤ 1
+    o = r .lawful .once
+
+    k : All (Sound (after calls .last)) (after calls .vcpus)
+    k = r .lawful .sound

@@ -1,0 +1,95 @@
+-- After any calls from the empty card, refused ones among them, all is lawful and the card runs the one chosen.
+-- Assumes nothing.
+use mathlib.Core.Path.{_≡_, refl, _∙_, subst}
+use mathlib.Core.Bool.{true}
+use mathlib.Core.List.{List, [], _∷_, map}
+use mathlib.Core.Option.{Option, none, some}
+use Prim.Native.Nat.{ℕ, _+_, _-_, _≤_}
+use native.Mathlib.Omega.{arith}
+use Rattle.rules.specs.Lists.{count, All}
+use Rattle.rules.specs.Vcpu.{Vcpu, named}
+use Rattle.rules.specs.Card.{Card, empty}
+use Rattle.rules.specs.Timer.{timer}
+use Rattle.rules.specs.Refuse.{Refusal, refusal}
+use Rattle.rules.specs.Turn.{Call, turn, settled, accepted, afterReturn, afterChange}
+use Rattle.rules.specs.History.{after, past, ticks, holds}
+use Rattle.rules.specs.Stays.{Stay, stays, staysAfter, withFold, changeStays}
+use Rattle.rules.proofs.Named.{is-named}
+use Rattle.rules.proofs.Lists.{all-imp, count-among}
+use Rattle.rules.proofs.Accepted.{Passed, passed, Settled, in-time, runs-on-card}
+use Rattle.rules.proofs.Lawful.{Lawful}
+use Rattle.rules.proofs.Advance.{rows-stepped, advance}
+use Rattle.rules.proofs.Changed.{changed}
+
+pub record Reached (c : Card) (ss : List Stay) (h : List (Option ℕ)) : Type 0 where
+  pub settled : Settled c
+  pub lawful : Lawful (c .last) (c .vcpus) ss h
+
+-- a call that is refused hands the card back, one that is accepted does its five steps
+
+pub card-refused : (c : Card) (call : Call) (r : Refusal) → refusal c (call .now) (call .asked) ≡ some r → turn c call .card ≡ c
+unfolding turn
+card-refused c call r e = rw e
+
+pub card-accepted : (c : Card) (call : Call) → refusal c (call .now) (call .asked) ≡ none → turn c call .card ≡ accepted c call
+unfolding turn
+card-accepted c call e = rw e
+
+-- after the change, at `now`, choose and timer settle the card
+settles : (now : ℕ) (vs : List Vcpu) (ss : List Stay) (h : List (Option ℕ)) → Lawful now vs ss h → Reached (settled now vs) ss h
+unfolding settled
+settles now vs ss h l = record { settled = record { runs-chosen = refl; timer-set = refl }; lawful = l }
+
+start : Reached empty [] []
+unfolding timer
+start =
+    record {
+      settled = record { runs-chosen = refl; timer-set = refl };
+      lawful = record {
+        sound = tt;
+        once = λ t. omega arith;
+        few = omega arith;
+        long = refl;
+        on-card = λ t. refl;
+        dated = tt;
+        paired = tt;
+        bounded = tt;
+        owned = tt;
+      };
+    }
+
+next : (c : Card) (ss : List Stay) (h : List (Option ℕ)) (call : Call) → Reached c ss h → refusal c (call .now) (call .asked) ≡ none
+    → Reached (accepted c call) (changeStays (call .now) (call .asked) (map (withFold c (call .now)) ss)) (ticks (call .now - c .last) (c .running) h)
+next c ss h call r e =
+    let p = passed c (call .now) (call .asked) e in
+    let l : c .last ≤ call .now = p .not-before in
+    let n : c .last + (call .now - c .last) ≡ call .now = omega arith in
+    settles (call .now) (afterChange c call) _ _
+    (changed (call .now) (afterReturn c (call .now)) (map (withFold c (call .now)) ss) (ticks (call .now - c .last) (c .running) h)
+    (subst (λ (k : ℕ). Lawful k (afterReturn c k) (map (withFold c k) ss) (ticks (call .now - c .last) (c .running) h)) n
+    (advance c (call .now - c .last) ss h (r .lawful) (pace p) there))
+    (call .asked) (rows-stepped c (call .now) (call .asked) ∙ p .asked-for))
+  where
+    pace : Passed c (call .now) (call .asked) → All (λ v. holds (v .terms .tunnel) (c .running) ≡ true → call .now - c .last ≤ v .usable) (c .vcpus)
+    pace p =
+        all-imp (λ v f q. omega (arith, f q)) (c .vcpus) (in-time c (call .now) (r .settled) (r .lawful .once) (p .not-late))
+
+    there : (t : ℕ) → c .running ≡ some t → count (named t) (c .vcpus) ≡ 1
+    there t f =
+        let v = runs-on-card c (r .settled) t f in
+        omega (arith, r .lawful .once t, count-among (named t) (c .vcpus) (v .0) (v .1) (is-named t (v .0) (v .2)))
+
+pub reached : (calls : List Call) → Reached (after calls) (stays calls) (past calls)
+unfolding settled
+reached [] = start
+reached (call ∷ calls) = go (refusal (after calls) (call .now) (call .asked)) refl (reached calls)
+  where
+    go : (o : Option Refusal) → refusal (after calls) (call .now) (call .asked) ≡ o → Reached (after calls) (stays calls) (past calls)
+        → Reached (turn (after calls) call .card) (staysAfter o (after calls) call (stays calls))
+        (ticks (turn (after calls) call .card .last - after calls .last) (after calls .running) (past calls))
+    go (some r) e ih =
+        let z : after calls .last - after calls .last ≡ 0 = omega arith in
+        rw (card-refused (after calls) call r e, z) ih
+    go none e ih =
+        rw (card-accepted (after calls) call e)
+        (next (after calls) (stays calls) (past calls) call ih e)

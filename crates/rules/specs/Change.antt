@@ -1,0 +1,33 @@
+-- Document 01, step 3: admit, wake, block or remove.
+-- Assumes nothing.
+use Prim.Native.Nat.{ℕ}
+use mathlib.Core.Bool.{Bool, true, false, cond, not}
+use mathlib.Core.List.{List, [], _∷_}
+use Rattle.rules.specs.Lists.{keep}
+use Rattle.rules.specs.Vcpu.{Description, Vcpu, admitted, moreUrgent, named}
+use Rattle.rules.specs.Card.{toNamed}
+
+-- what a call asks for; each but the tick names an identifier
+pub data Change : Type 0 where
+  admit : Description → Change
+  wake : ℕ → Change
+  block : ℕ → Change
+  remove : ℕ → Change
+  tick : Change
+
+-- A newcomer's place in the list is before the first that is less urgent. No rule depends on the list's order.
+abbrev pub placed : Vcpu → List Vcpu → List Vcpu
+placed v [] = v ∷ []
+placed v (w ∷ ws) = cond (moreUrgent (v .terms) (w .terms)) (v ∷ w ∷ ws) (w ∷ placed v ws)
+
+-- waking a runnable VCPU or blocking one that isn't changes nothing
+abbrev pub setRunnable : Bool → Vcpu → Vcpu
+setRunnable runnable v =
+    record { terms = v .terms; runnable = runnable; usable = v .usable; ended = v .ended; pending = v .pending }
+
+abbrev pub change : Change → List Vcpu → List Vcpu
+change (admit d) vs = placed (admitted d) vs
+change (wake tunnel) vs = toNamed tunnel (setRunnable true) vs
+change (block tunnel) vs = toNamed tunnel (setRunnable false) vs
+change (remove tunnel) vs = keep (λ v. not (named tunnel v)) vs
+change tick vs = vs

@@ -1,0 +1,78 @@
+-- What steps 4 and 5 and the numbers of the card mean, as facts of a card. Proved of the card after any calls in proofs/Meaning.
+-- Assumes nothing.
+use Prim.Native.Nat.{ℕ, _+_, _≤_, _<_}
+use mathlib.Core.Path.{_≡_}
+use mathlib.Core.Bool.{Bool, true, false, _&&_}
+use mathlib.Core.List.{List}
+use mathlib.Core.Logic.{_⊎_, _↔_}
+use mathlib.Core.Option.{none, some}
+use lib.ListN.{length}
+use Rattle.rules.specs.Limits.{largestTime, largestTunnel, largestPeriod, mostVcpus, mostPending}
+use Rattle.rules.specs.Lists.{All, Among}
+use Rattle.rules.specs.Vcpu.{Description, Entry, Vcpu, moreUrgent}
+use Rattle.rules.specs.Card.{Card, onCard, find}
+use Rattle.rules.specs.Turn.{report}
+
+-- `v` may run: it is on the card, runnable, with usable ticks, and no such VCPU is more urgent
+pub record Fits (vs : List Vcpu) (v : Vcpu) : Type 0 where
+  pub on-card : Among v vs
+  pub runnable : v .runnable ≡ true
+  pub has-ticks : 0 < v .usable
+  pub most-urgent : All (λ w. w .runnable ≡ true → 0 < w .usable → moreUrgent (w .terms) (v .terms) ≡ false) vs
+
+-- the moment is the time of a pending return of a VCPU that passes the test
+pub record Returns (test : Vcpu → Bool) (vs : List Vcpu) (t : ℕ) : Type 0 where
+  pub who : Vcpu
+  pub which : Entry
+  pub on-card : Among who vs
+  pub passes : test who ≡ true
+  pub pends : Among which (who .pending)
+  pub then : t ≡ which .due
+
+-- no VCPU that passes the test has a pending return before the moment
+abbrev pub NoneBefore : (Vcpu → Bool) → List Vcpu → ℕ → Type 0
+NoneBefore test vs t = All (λ w. test w ≡ true → All (λ e. t ≤ e .due) (w .pending)) vs
+
+abbrev pub runnable : Vcpu → Bool
+runnable w = w .runnable
+
+-- runnable, and more urgent than `v`
+abbrev pub above : Vcpu → Vcpu → Bool
+above v w = w .runnable && moreUrgent (w .terms) (v .terms)
+
+-- "The earlier of `now` + the chosen one's usable ticks and the earliest pending return of any runnable VCPU more urgent than it."
+pub record Runs (now : ℕ) (vs : List Vcpu) (v : Vcpu) (t : ℕ) : Type 0 where
+  pub in-time : t ≤ now + v .usable
+  pub before-returns : NoneBefore (above v) vs t
+  pub one-of-them : (t ≡ now + v .usable) ⊎ Returns (above v) vs t
+
+-- "Numbers of the card"
+pub record InRange (d : Description) : Type 0 where
+  pub tunnel-high : d .tunnel ≤ largestTunnel
+  pub period-low : 1 ≤ d .period
+  pub period-high : d .period ≤ largestPeriod
+  pub capacity-low : 1 ≤ d .capacity
+  pub capacity-high : d .capacity ≤ d .period
+
+pub record Meaning (c : Card) : Type 0 where
+  -- the one that runs fits, and has the timer
+  pub runs : (v : Vcpu) → Fits (c .vcpus) v ↔ (Among v (c .vcpus) × (c .running ≡ some (v .terms .tunnel)))
+  pub has-timer : (v : Vcpu) → Fits (c .vcpus) v → (t : ℕ) × (c .timer ≡ some t) × Runs (c .last) (c .vcpus) v t
+  -- "if there is none, idle. In idle: the earliest pending return of any runnable VCPU."
+  pub idle : c .running ≡ none ↔ All (λ v. v .runnable ≡ true → v .usable ≡ 0) (c .vcpus)
+  pub idle-timer : c .running ≡ none → (t : ℕ) → c .timer ≡ some t
+      → Returns runnable (c .vcpus) t × NoneBefore runnable (c .vcpus) t
+  -- "If nobody is runnable, there is no timer."
+  pub no-timer : c .timer ≡ none ↔ All (λ v. v .runnable ≡ false) (c .vcpus)
+  -- an identifier, all 24 bits of it, stands at most once
+  pub once : (v w : Vcpu) → Among v (c .vcpus) → Among w (c .vcpus) → v .terms .tunnel ≡ w .terms .tunnel → v ≡ w
+  pub on-card : (tunnel : ℕ) → onCard tunnel (c .vcpus) ≡ true ↔ (v : Vcpu) × Among v (c .vcpus) × (v .terms .tunnel ≡ tunnel)
+  pub finds : (tunnel : ℕ) (v : Vcpu) → find tunnel (c .vcpus) ≡ some v ↔ (Among v (c .vcpus) × (v .terms .tunnel ≡ tunnel))
+  -- the report has the usable ticks of the one that runs, 0 in idle
+  pub reports : (v : Vcpu) → Fits (c .vcpus) v → report c .usable ≡ v .usable
+  pub reports-idle : c .running ≡ none → report c .usable ≡ 0
+  -- the limits hold
+  pub time-high : c .last ≤ largestTime
+  pub few-vcpus : length (c .vcpus) ≤ mostVcpus
+  pub in-range : All (λ v. InRange (v .terms)) (c .vcpus)
+  pub few-pending : All (λ v. length (v .pending) ≤ mostPending) (c .vcpus)

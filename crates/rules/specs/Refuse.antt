@@ -1,0 +1,50 @@
+-- Document 01, "Reply numbers", rows 1 to 8: the first row from the top that applies.
+-- Assumes nothing.
+use Prim.Native.Nat.{ℕ}
+use mathlib.Core.Bool.{Bool, cond, not}
+use mathlib.Core.List.{List}
+use mathlib.Core.Option.{Option, none, some}
+use lib.Dec.{leb, ltb}
+use lib.ListN.{length}
+use Rattle.rules.specs.Limits.{largestTime, largestTunnel, mostVcpus, inRange}
+use Rattle.rules.specs.Vcpu.{Description, Vcpu}
+use Rattle.rules.specs.Card.{Card, onCard}
+use Rattle.rules.specs.Change.{Change, admit, wake, block, remove, tick}
+
+pub record Refusal : Type 0 where
+  pub number : ℕ
+  pub detail : ℕ
+
+-- a row of the table: where its test applies, its number and detail; else the rows below
+abbrev pub row : Bool → ℕ → ℕ → Option Refusal → Option Refusal
+row applies number detail below = cond applies (some (record { number = number; detail = detail })) below
+
+-- "there is a timer and the time is later than it", with the timer as the detail
+abbrev pub rowLate : Option ℕ → ℕ → Option Refusal → Option Refusal
+rowLate none now below = below
+rowLate (some t) now below = row (ltb t now) 3 t below
+
+abbrev pub timeRows : ℕ → Option ℕ → ℕ → Option Refusal → Option Refusal
+timeRows last timer now below = row (ltb largestTime now) 1 0 (row (ltb now last) 2 0 (rowLate timer now below))
+
+abbrev pub admitRows : List Vcpu → Description → Option Refusal
+admitRows vs d =
+    row (ltb largestTunnel (d .tunnel)) 4 0
+    (row (not (inRange (d .period) (d .capacity))) 5 0
+    (row (onCard (d .tunnel) vs) 6 0
+    (row (leb mostVcpus (length vs)) 8 0
+    none)))
+
+-- wake, block, remove
+abbrev pub namingRows : List Vcpu → ℕ → Option Refusal
+namingRows vs tunnel = row (ltb largestTunnel tunnel) 4 0 (row (not (onCard tunnel vs)) 7 0 none)
+
+abbrev pub callRows : List Vcpu → Change → Option Refusal
+callRows vs (admit d) = admitRows vs d
+callRows vs (wake tunnel) = namingRows vs tunnel
+callRows vs (block tunnel) = namingRows vs tunnel
+callRows vs (remove tunnel) = namingRows vs tunnel
+callRows vs tick = none
+
+unfoldable pub refusal : Card → ℕ → Change → Option Refusal
+refusal c now asked = timeRows (c .last) (c .timer) now (callRows (c .vcpus) asked)

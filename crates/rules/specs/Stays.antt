@@ -1,0 +1,97 @@
+-- Stays: from an admit to the remove of the same identifier, and the ticks that a stay held.
+-- Assumes nothing.
+use Prim.Native.Nat.{ℕ, _+_}
+use mathlib.Core.Bool.{Bool, true, false, cond, _&&_, _||_}
+use mathlib.Core.List.{List, [], _∷_, map}
+use mathlib.Core.Option.{Option, none, some}
+use lib.Dec.{leb, ltb, eqb}
+use lib.ListN.{length, take, drop}
+use Rattle.rules.specs.Lists.{any, count}
+use Rattle.rules.specs.Vcpu.{Description, named}
+use Rattle.rules.specs.Card.{Card}
+use Rattle.rules.specs.Charge.{folds}
+use Rattle.rules.specs.Change.{Change, admit, wake, block, remove, tick}
+use Rattle.rules.specs.Refuse.{Refusal, refusal}
+use Rattle.rules.specs.Turn.{Call}
+use Rattle.rules.specs.History.{after, holds, isIdle}
+
+-- admitted with these terms at `from`, removed at `until` (none while it lasts); whether its return queue ever had to fold
+pub record Stay : Type 0 where
+  pub terms : Description
+  pub from : ℕ
+  pub until : Option ℕ
+  pub folded : Bool
+
+abbrev pub lasts : Option ℕ → Bool
+lasts none = true
+lasts (some t) = false
+
+-- it lasts, and has this identifier
+abbrev pub lastsAs : ℕ → Stay → Bool
+lastsAs tunnel s = lasts (s .until) && eqb (s .terms .tunnel) tunnel
+
+-- an accepted call at `now` makes the queue of the VCPU so named fold
+abbrev pub foldsAt : Card → ℕ → ℕ → Bool
+foldsAt c now tunnel =
+    holds tunnel (c .running) && ltb (c .last) now && any (λ v. named tunnel v && folds (c .last) v) (c .vcpus)
+
+abbrev pub withFold : Card → ℕ → Stay → Stay
+withFold c now s =
+    record {
+      terms = s .terms;
+      from = s .from;
+      until = s .until;
+      folded = s .folded || (lasts (s .until) && foldsAt c now (s .terms .tunnel));
+    }
+
+abbrev pub withEnd : ℕ → ℕ → Stay → Stay
+withEnd now tunnel s =
+    record { terms = s .terms; from = s .from; until = cond (lastsAs tunnel s) (some now) (s .until); folded = s .folded }
+
+-- an admit begins a stay, a remove ends one
+abbrev pub changeStays : ℕ → Change → List Stay → List Stay
+changeStays now (admit d) ss = record { terms = d; from = now; until = none; folded = false } ∷ ss
+changeStays now (wake tunnel) ss = ss
+changeStays now (block tunnel) ss = ss
+changeStays now (remove tunnel) ss = map (withEnd now tunnel) ss
+changeStays now tick ss = ss
+
+-- an accepted call folds or not, then changes; a refused one does nothing
+abbrev pub staysAfter : Option Refusal → Card → Call → List Stay → List Stay
+staysAfter (some r) c call ss = ss
+staysAfter none c call ss = changeStays (call .now) (call .asked) (map (withFold c (call .now)) ss)
+
+-- all stays so far, ended ones included
+abbrev pub stays : List Call → List Stay
+stays [] = []
+stays (call ∷ calls) =
+    staysAfter (refusal (after calls) (call .now) (call .asked)) (after calls) call (stays calls)
+
+abbrev pub beforeEnd : Option ℕ → ℕ → Bool
+beforeEnd none at = true
+beforeEnd (some until) at = ltb at until
+
+-- the tick from the moment `at` to the next is this stay's
+abbrev pub owns : Stay → Option ℕ → ℕ → Bool
+owns s holder at = holds (s .terms .tunnel) holder && leb (s .from) at && beforeEnd (s .until) at
+
+-- for each tick of the past, whether this stay held it; a tick begins at the moment that is the number of ticks before it
+abbrev pub held : Stay → List (Option ℕ) → List Bool
+held s [] = []
+held s (holder ∷ before) = owns s holder (length before) ∷ held s before
+
+abbrev pub heldTicks : List Bool → ℕ
+heldTicks = count (λ b. b)
+
+-- a window: `long` ticks in a row, with `before` ticks between it and the last accepted call
+abbrev pub window : ℕ → ℕ → List Bool → List Bool
+window long before ticks = take long (drop before ticks)
+
+-- a fact of each tick of the past: of its holder and the moment at which it begins
+abbrev pub EachTick : (Option ℕ → ℕ → Type 0) → List (Option ℕ) → Type 0
+EachTick P [] = Unit {0}
+EachTick P (holder ∷ before) = P holder (length before) × EachTick P before
+
+-- how many a tick belongs to: stays, or idle
+abbrev pub owners : List Stay → Option ℕ → ℕ → ℕ
+owners ss holder at = cond (isIdle holder) 1 0 + count (λ s. owns s holder at) ss

@@ -1,0 +1,63 @@
+-- Document 01, "What a call does": a call, its reply, and the state handed back.
+-- Assumes nothing.
+use Prim.Native.Nat.{ℕ}
+use mathlib.Core.List.{List}
+use mathlib.Core.Option.{Option, none, some}
+use Rattle.rules.specs.Vcpu.{Vcpu}
+use Rattle.rules.specs.Card.{Card}
+use Rattle.rules.specs.Charge.{charge}
+use Rattle.rules.specs.Return.{bring}
+use Rattle.rules.specs.Change.{Change, change}
+use Rattle.rules.specs.Choose.{choose, runs, usableOf}
+use Rattle.rules.specs.Timer.{timer}
+use Rattle.rules.specs.Refuse.{Refusal, refusal}
+
+pub record Call : Type 0 where
+  pub now : ℕ
+  pub asked : Change
+
+-- time, who runs (none in idle), its usable ticks (0 in idle), timer
+pub record Report : Type 0 where
+  pub time : ℕ
+  pub run : Option ℕ
+  pub usable : ℕ
+  pub timer : Option ℕ
+
+pub data Reply : Type 0 where
+  ok : Report → Reply
+  refused : Refusal → Reply
+
+pub record Answer : Type 0 where
+  pub reply : Reply
+  pub card : Card
+
+-- the VCPUs after steps 1, 2 and 3
+abbrev pub afterCharge : Card → ℕ → List Vcpu
+afterCharge c now = charge (c .last) now (c .running) (c .vcpus)
+
+abbrev pub afterReturn : Card → ℕ → List Vcpu
+afterReturn c now = bring now (afterCharge c now)
+
+abbrev pub afterChange : Card → Call → List Vcpu
+afterChange c call = change (call .asked) (afterReturn c (call .now))
+
+-- steps 4 and 5: choose and timer
+unfoldable pub settled : ℕ → List Vcpu → Card
+settled now vs =
+    record { last = now; running = runs (choose vs); timer = timer now vs (choose vs); vcpus = vs }
+
+abbrev pub report : Card → Report
+report c = record { time = c .last; run = c .running; usable = usableOf (choose (c .vcpus)); timer = c .timer }
+
+abbrev pub accepted : Card → Call → Card
+accepted c call = settled (call .now) (afterChange c call)
+
+-- "A refusal returns the number and the detail and no result; the state handed back equals the state handed in."
+abbrev pub answered : Card → Call → Option Refusal → Answer
+answered c call (some r) = record { reply = refused r; card = c }
+answered c call none =
+    let d : Card = accepted c call in
+    record { reply = ok (report d); card = d }
+
+unfoldable pub turn : Card → Call → Answer
+turn c call = answered c call (refusal c (call .now) (call .asked))

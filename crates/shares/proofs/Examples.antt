@@ -1,0 +1,31 @@
+-- P1 to P12 of document 01 hold, P11 for every P from 1 to 2,000: eleven by computing, P11 since no length supplies more than itself.
+-- Assumes nothing.
+use Prim.Native.Nat.{ℕ, _≤_}
+use mathlib.Core.Path.{_≡_, refl}
+use native.Mathlib.Omega.{arith}
+use Rattle.shares.specs.Supply.{supplyOf}
+use Rattle.shares.specs.Share.{meets, passes, leastOf, better, bestOf}
+use Rattle.shares.specs.Reply.{refuses}
+use Rattle.shares.specs.Rows.{tasksRow, tasksRows, supplyReply, demandReply, checkReply, leastReply, bestReply}
+use Rattle.shares.specs.Meaning.{NoBudget}
+use Rattle.shares.specs.Examples.{least, W11, replyTo, Hold, examples}
+use Rattle.shares.proofs.SupplyCurve.{supply-most}
+use Rattle.shares.proofs.Replies.{least-34}
+
+-- task 2 of P11 demands 3, 3, 5, 5 at t = 1 .. 4
+too-much : (P : ℕ) → NoBudget P (W11 .periods) (W11 .costs)
+too-much P B from to pass =
+    let m = pass 2 (omega arith) (omega arith) in
+    absurd (omega (arith, m .from-1, m .to-p, m .enough, supply-most P B (m .t) from to))
+
+p11 : (P : ℕ) → 1 ≤ P → P ≤ 2000 → replyTo (least W11 P) ≡ refuses 34 0
+unfolding tasksRow
+p11 P from to = least-34 (W11 .periods) (W11 .costs) P .1 ((refl, from, to), too-much P)
+
+-- the others by computing
+with-p11 : (P : ℕ) → replyTo (least W11 P) ≡ refuses 34 0 → Hold (examples P)
+unfolding supplyOf meets passes leastOf better bestOf tasksRow tasksRows supplyReply demandReply checkReply leastReply bestReply
+with-p11 P eleventh = (refl, (refl, (refl, (refl, (refl, (refl, (refl, (refl, (refl, (refl, (eleventh, (refl, tt))))))))))))
+
+pub each-holds : (P : ℕ) → 1 ≤ P → P ≤ 2000 → Hold (examples P)
+each-holds P from to = with-p11 P (p11 P from to)

@@ -1,0 +1,64 @@
+-- Document 01, "Sizing examples, to be proved": what is asked and the complete reply, as one list. proofs/Examples.antt proves it.
+-- No code cites it. Assumes nothing.
+use Prim.Native.Nat.{ℕ}
+use mathlib.Core.Path.{_≡_}
+use mathlib.Core.List.{List, [], _∷_}
+use Rattle.shares.specs.Reply.{Reply, gives, refuses}
+use Rattle.shares.specs.Rows.{supplyReply, demandReply, checkReply, leastReply, bestReply}
+
+-- a task list: task k is at k - 1 in both
+pub record Work : Type 0 where
+  pub periods : List ℕ
+  pub costs : List ℕ
+
+-- supply P B t; demand work i t; check work P B; least work P; best work P-max
+pub data Asked : Type 0 where
+  supply : ℕ → ℕ → ℕ → Asked
+  demand : Work → ℕ → ℕ → Asked
+  check : Work → ℕ → ℕ → Asked
+  least : Work → ℕ → Asked
+  best : Work → ℕ → Asked
+
+-- the complete reply of the public function that is asked
+abbrev pub replyTo : Asked → Reply
+replyTo (supply P B t) = supplyReply P B t
+replyTo (demand w i t) = demandReply (w .periods) (w .costs) i t
+replyTo (check w P B) = checkReply (w .periods) (w .costs) P B
+replyTo (least w P) = leastReply (w .periods) (w .costs) P
+replyTo (best w P-max) = bestReply (w .periods) (w .costs) P-max
+
+pub record Example : Type 0 where
+  pub asked : Asked
+  pub reply : Reply
+
+-- each example of a list gets its reply
+abbrev pub Hold : List Example → Type 0
+Hold [] = Unit
+Hold (x ∷ rest) = (replyTo (x .asked) ≡ x .reply) × Hold rest
+
+-- W is the tasks (period 5, cost 1), (10, 3); W11 and W12 are those of P11 and P12
+abbrev pub W : Work
+W = record { periods = 5 ∷ 10 ∷ []; costs = 1 ∷ 3 ∷ [] }
+
+abbrev pub W11 : Work
+W11 = record { periods = 2 ∷ 4 ∷ []; costs = 2 ∷ 1 ∷ [] }
+
+abbrev pub W12 : Work
+W12 = record { periods = 1 ∷ []; costs = 1 ∷ [] }
+
+-- P1 to P12 in order; P is P11's. Passes is 1, doesn't is 0.
+abbrev pub examples : ℕ → List Example
+examples P =
+    record { asked = supply 4 3 2; reply = gives (0 ∷ []) }
+    ∷ record { asked = supply 4 3 5; reply = gives (3 ∷ []) }
+    ∷ record { asked = supply 4 3 7; reply = gives (4 ∷ []) }
+    ∷ record { asked = supply 5 5 9; reply = gives (9 ∷ []) }
+    ∷ record { asked = demand W 2 5; reply = gives (4 ∷ []) }
+    ∷ record { asked = demand W 2 6; reply = gives (5 ∷ []) }
+    ∷ record { asked = least W 5; reply = gives (4 ∷ []) }
+    ∷ record { asked = check W 3 2; reply = gives (1 ∷ []) }
+    ∷ record { asked = check W 4 2; reply = gives (0 ∷ []) }
+    ∷ record { asked = best W 5; reply = gives (3 ∷ 2 ∷ []) }
+    ∷ record { asked = least W11 P; reply = refuses 34 0 }
+    ∷ record { asked = best W12 3; reply = gives (3 ∷ 3 ∷ []) }
+    ∷ []
