@@ -1,0 +1,98 @@
+-- A number that is kept and the number that was written are alike: equal, or both above every limit, so that each row treats them alike.
+-- Assumes nothing.
+use Prim.Native.Nat.{ℕ, _+_, _-_, _*_, _≤_, _<_}
+use mathlib.Core.Path.{_≡_, refl}
+use mathlib.Core.Bool.{Bool, true, false, cond, not, _&&_, _||_}
+use mathlib.Core.List.{List, [], _∷_}
+use mathlib.Core.Logic.{_⊎_, inl, inr}
+use native.Mathlib.Omega.{arith}
+use lib.Dec.{leb, ltb}
+use borrow.Author.Tests.{lt-ltb, lt-leb, ltb-false, leb-true}
+use Rattle.shares.specs.Reply.{Reply}
+use Rattle.shares.specs.Rows.{within, inRange, row, supplyReply}
+use Rattle.queries.specs.Reading.{figured}
+use Rattle.queries.specs.Meaning.{isDigit, allDigits, numberFrom}
+use Rattle.queries.proofs.Readings.{capped, digitStep}
+
+-- equal, or both above m
+abbrev pub Alike : ℕ → ℕ → ℕ → Type 0
+Alike m a b = (a ≡ b) ⊎ ((m < a) × (m < b))
+
+alike-digit : (n m b : ℕ) → isDigit b ≡ true → Alike 3000 n m → Alike 3000 (digitStep n b) (m * 10 + (b - 48))
+unfolding figured
+alike-digit n m b e a = rw e (go a (ltb n 400000000) refl)
+  where
+    go : Alike 3000 n m → (t : Bool) → ltb n 400000000 ≡ t → Alike 3000 (cond t (n * 10 + (b - 48)) n) (m * 10 + (b - 48))
+    go (inl q) true p = inl (rw q)
+    go (inl q) false p = inr (omega (arith, ltb-false n 400000000 p))
+    go (inr q) true p = inr (omega (arith, q .0, q .1))
+    go (inr q) false p = inr (omega (arith, q .0, q .1))
+
+pub alike-number : (f : List ℕ) (n m : ℕ) → allDigits f ≡ true → Alike 3000 n m → Alike 3000 (capped n f) (numberFrom m f)
+alike-number [] n m e a = a
+alike-number (b ∷ f) n m e a = go (isDigit b) refl e (alike-number f (digitStep n b) (m * 10 + (b - 48)))
+  where
+    go : (t : Bool) → isDigit b ≡ t → (t && allDigits f) ≡ true
+        → (allDigits f ≡ true → Alike 3000 (digitStep n b) (m * 10 + (b - 48)) → Alike 3000 (capped (digitStep n b) f) (numberFrom (m * 10 + (b - 48)) f))
+        → Alike 3000 (capped (digitStep n b) f) (numberFrom (m * 10 + (b - 48)) f)
+    go true p q r = r q (alike-digit n m b p a)
+    go false p q r = let z : _≡_ {A = ℕ} 0 1 = cc in absurd (omega arith)
+
+-- the rows on P and B, and on t, see no difference
+in-range : (a n : ℕ) → n ≤ 3000 → 3000 < a → within a n ≡ false
+in-range a n h k = go (leb 1 a)
+  where
+    go : (t : Bool) → (t && leb a n) ≡ false
+    go true = lt-leb a n (omega arith)
+    go false = refl
+
+pub within-limit : (a n : ℕ) → within a n ≡ true → a ≤ n
+within-limit a n e = go (leb 1 a) (leb a n) refl e
+  where
+    go : (s t : Bool) → leb a n ≡ t → (s && t) ≡ true → a ≤ n
+    go true true p q = leb-true a n p
+    go true false p q = let z : _≡_ {A = ℕ} 0 1 = cc in absurd (omega arith)
+    go false t p q = let z : _≡_ {A = ℕ} 0 1 = cc in absurd (omega arith)
+
+abbrev pub bad-share : ℕ → ℕ → Bool
+bad-share P B = not (inRange P B)
+
+pub share-large : (P B : ℕ) → 3000 < P → bad-share P B ≡ true
+share-large P B h = rw (in-range P 2000 (omega arith) h)
+
+pub budget-large : (P B : ℕ) → 3000 < B → bad-share P B ≡ true
+budget-large P B h = go (within P 2000) refl
+  where
+    go : (t : Bool) → within P 2000 ≡ t → not (t && within B P) ≡ true
+    go true e = rw (in-range B P (omega (arith, within-limit P 2000 e)) h)
+    go false e = refl
+
+pub share-alike : (P P′ B B′ : ℕ) → Alike 3000 P P′ → Alike 3000 B B′ → (X X′ : Reply) → ((P ≡ P′) → (B ≡ B′) → X ≡ X′)
+    → row (bad-share P B) 33 0 X ≡ row (bad-share P′ B′) 33 0 X′
+share-alike P P′ B B′ (inl p) (inl q) X X′ r = rw (p, q, r p q)
+share-alike P P′ B B′ (inl p) (inr q) X X′ r = rw (budget-large P B (q .0), budget-large P′ B′ (q .1))
+share-alike P P′ B B′ (inr p) b X X′ r = rw (share-large P B (p .0), share-large P′ B′ (p .1))
+
+pub period-alike : (P P′ : ℕ) → Alike 3000 P P′ → (X X′ : Reply) → ((P ≡ P′) → X ≡ X′)
+    → row (not (within P 2000)) 33 0 X ≡ row (not (within P′ 2000)) 33 0 X′
+period-alike P P′ (inl p) X X′ r = rw (p, r p)
+period-alike P P′ (inr p) X X′ r = rw (in-range P 2000 (omega arith) (p .0), in-range P′ 2000 (omega arith) (p .1))
+
+abbrev bad-length : ℕ → ℕ → ℕ → Bool
+bad-length n i t = ltb 2000 t || not (within i n)
+
+or-true : (t : Bool) → (t || true) ≡ true
+or-true true = refl
+or-true false = refl
+
+pub length-alike : (n i i′ t t′ : ℕ) → n ≤ 3000 → Alike 3000 i i′ → Alike 3000 t t′ → (X X′ : Reply) → ((i ≡ i′) → (t ≡ t′) → X ≡ X′)
+    → row (bad-length n i t) 35 0 X ≡ row (bad-length n i′ t′) 35 0 X′
+length-alike n i i′ t t′ h (inl p) (inl q) X X′ r = rw (p, q, r p q)
+length-alike n i i′ t t′ h (inr p) (inl q) X X′ r = rw (q, in-range i n h (p .0), in-range i′ n h (p .1), or-true)
+length-alike n i i′ t t′ h a (inr q) X X′ r = rw (lt-ltb 2000 t (omega (arith, q .0)), lt-ltb 2000 t′ (omega (arith, q .1)))
+
+pub supply-alike : (P P′ B B′ t t′ : ℕ) → Alike 3000 P P′ → Alike 3000 B B′ → Alike 3000 t t′ → supplyReply P B t ≡ supplyReply P′ B′ t′
+unfolding supplyReply
+supply-alike P P′ B B′ t t′ p b (inl q) = share-alike P P′ B B′ p b _ _ (λ e f. rw (e, f, q))
+supply-alike P P′ B B′ t t′ p b (inr q) =
+    share-alike P P′ B B′ p b _ _ (λ e f. rw (lt-ltb 2000 t (omega (arith, q .0)), lt-ltb 2000 t′ (omega (arith, q .1))))

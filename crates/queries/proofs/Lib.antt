@@ -1,0 +1,16 @@
+-- The laws that the proofs of this crate's functions cite. Assumes nothing.
+pub mod Places
+pub mod Steps
+pub mod Asking
+pub mod Writing
+pub mod Replies
+pub mod Fields
+pub mod Readings
+pub mod Kept
+pub mod Lines
+pub mod Words
+pub mod Alike
+pub mod AlikeTasks
+pub mod Tasks
+pub mod FirstBad
+pub mod Meaning

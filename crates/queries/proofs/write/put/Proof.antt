@@ -1,0 +1,70 @@
+-- `put` puts a text: after k turns its first k bytes. Assumes nothing.
+use Rattle.queries.proofs.Writing.{put-again}
+use lib.Seq.{sets, take-all, length-sets}
+use lib.ListN.{length, take}
+use native.Mathlib.Omega.{arith}
+use mathlib.Core.Path.{_≡_, refl, ap, _∙_}
+use Prim.Native.Nat.{_≤_, _<_, _-_}
+use borrow.Author.Needs.{needs}
+use Rattle.queries.proofs.write.put.Statement.{statement}
+use Rattle.queries.proofs.write.put.Tie as tie
+
+abbrev Inv-loop : tie.InvT-loop
+Inv-loop out₀ at text k₀ out k = (k ≤ length text) × (out ≡ sets out₀ at (take k text))
+
+abbrev μ-loop : tie.MeasureT-loop
+μ-loop out₀ at text k₀ out k = length text - k
+
+loop-holds : tie.Need-loop-holds Inv-loop μ-loop
+loop-holds c = (omega arith, refl)
+
+shared-slice-read-out : tie.Need-shared-slice-read-out Inv-loop μ-loop
+shared-slice-read-out c = search needs
+
+add-out : tie.Need-add-out Inv-loop μ-loop
+add-out c = omega arith
+
+slice-write-out : tie.Need-slice-write-out Inv-loop μ-loop
+slice-write-out c = omega (arith, ap length (c .before .before .loop .inv .1) ∙ length-sets (c .before .before .before .args .out .now) (c .before .before .before .args .at) (take (c .before .before .loop .k) (c .before .before .before .args .text .now)))
+
+add-k : tie.Need-add-k Inv-loop μ-loop
+add-k c = search needs
+
+loop-less : tie.Need-loop-less Inv-loop μ-loop
+loop-less c = omega arith
+
+loop-again : tie.Need-loop-again Inv-loop μ-loop
+loop-again c =
+    let h : c .before .before .loop .k < length (c .before .before .before .args .text .now) = omega arith in
+    (omega arith, put-again (c .before .before .before .args .out .now) _ (c .before .before .before .args .text .now) (c .before .before .before .args .at) (c .before .before .loop .k) h (c .before .before .loop .inv .1))
+
+add-result : tie.Need-add-result Inv-loop μ-loop
+add-result c = omega arith
+
+same-length : tie.Need-same-length Inv-loop μ-loop
+same-length c = ap length (c .before .loop .inv .1) ∙ length-sets (c .before .before .args .out .now) (c .before .before .args .at) (take (c .before .loop .k) (c .before .before .args .text .now))
+
+returns : tie.Need-returns Inv-loop μ-loop
+returns c =
+    let h : length (c .before .before .args .text .now) ≤ c .before .loop .k = omega arith in
+    record {
+      behind = omega arith;
+      stored = c .before .loop .inv .1 ∙ ap (sets (c .before .before .args .out .now) (c .before .before .args .at)) (take-all (c .before .loop .k) (c .before .before .args .text .now) h);
+    }
+
+pub put-spec : {M : Type 1} → statement M
+put-spec =
+    tie.close
+    (tie.spec
+    Inv-loop
+    μ-loop
+    loop-holds
+    shared-slice-read-out
+    add-out
+    slice-write-out
+    add-k
+    loop-less
+    loop-again
+    add-result
+    same-length
+    returns)

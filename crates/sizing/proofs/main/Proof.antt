@@ -1,0 +1,59 @@
+-- `main` is safe and ends: the measure is the number of turns that are left. Assumes nothing.
+use lib.ListN.{length}
+use mathlib.Core.Path.{_≡_}
+use borrow.Author.Needs.{needs}
+use Rattle.sizing.proofs.main.Statement.{statement}
+use Rattle.sizing.proofs.main.Tie as tie
+
+abbrev Inv-loop : tie.InvT-loop
+Inv-loop input₀ out₀ line₀ turns₀ input out line turns = 65536 ≡ length input
+
+abbrev μ-loop : tie.MeasureT-loop
+μ-loop input₀ out₀ line₀ turns₀ input out line turns = turns
+
+large-buffer-requires : tie.Need-large-buffer-requires Inv-loop μ-loop
+large-buffer-requires c κs = search needs
+
+start-requires : tie.Need-start-requires Inv-loop μ-loop
+start-requires c κs = search needs
+
+loop-holds : tie.Need-loop-holds Inv-loop μ-loop
+loop-holds c = search needs
+
+slice-aggregate-turned : tie.Need-slice-aggregate-turned Inv-loop μ-loop
+slice-aggregate-turned c = search needs
+
+turned-requires : tie.Need-turned-requires Inv-loop μ-loop
+turned-requires c κs = search needs
+
+returns : tie.Need-returns Inv-loop μ-loop
+returns c = search needs
+
+sub-turns : tie.Need-sub-turns Inv-loop μ-loop
+sub-turns c = search needs
+
+loop-less : tie.Need-loop-less Inv-loop μ-loop
+loop-less c = search needs
+
+loop-again : tie.Need-loop-again Inv-loop μ-loop
+loop-again c = search needs
+
+returns-2 : tie.Need-returns-2 Inv-loop μ-loop
+returns-2 c = search needs
+
+pub main-spec : {M : Type 1} → statement M
+main-spec =
+    tie.close
+    (tie.spec
+    Inv-loop
+    μ-loop
+    large-buffer-requires
+    start-requires
+    loop-holds
+    slice-aggregate-turned
+    turned-requires
+    returns
+    sub-turns
+    loop-less
+    loop-again
+    returns-2)

@@ -1,0 +1,178 @@
+//! `bench-sizing`: the best interface on the worst lists found, by the given program, by
+//! the same algorithm here and by the plain reading.
+
+use crate::bad_lists::{self, List, P_MAX};
+use crate::pipe;
+use crate::plain_work::plain_work;
+use crate::shares::{self, Tasks};
+use crate::twin;
+use std::hint::black_box;
+use std::time::Instant;
+
+pub struct Plan {
+    pub program: String,
+    pub seed: u64,
+    pub families: u64,
+    pub changes: u64,
+    pub rounds: u64,
+    pub full: bool,
+}
+
+struct Row {
+    program: f64,
+    twin: f64,
+    plain: f64,
+}
+
+fn seconds(action: impl FnOnce()) -> f64 {
+    let start = Instant::now();
+    action();
+    start.elapsed().as_secs_f64()
+}
+
+/// One run of the program over the same query many times; seconds for all.
+fn program_run(program: &str, query: &str, times: u64) -> Result<(f64, Vec<u8>), String> {
+    let input = format!("{query}\n").repeat(times as usize);
+    let start = Instant::now();
+    let output = pipe::feed(program, input.as_bytes())?;
+    Ok((start.elapsed().as_secs_f64(), output))
+}
+
+fn twin_run(list: &List, times: u64) -> f64 {
+    seconds(|| {
+        for _ in 0..times {
+            black_box(twin::best(black_box(&list.periods), black_box(&list.costs), black_box(P_MAX)));
+        }
+    })
+}
+
+fn wide(list: &[u32]) -> Vec<u64> {
+    list.iter().map(|&x| u64::from(x)).collect()
+}
+
+fn plain_run(list: &List, p_max: u32) -> f64 {
+    let (periods, costs) = (wide(&list.periods), wide(&list.costs));
+    let tasks = Tasks { periods: &periods, costs: &costs };
+    seconds(|| {
+        black_box(shares::best(black_box(tasks), black_box(u64::from(p_max)))).ok();
+    })
+}
+
+/// The right answers, `times` of them.
+fn expected(list: &List, times: u64) -> String {
+    let line = match twin::best(&list.periods, &list.costs, P_MAX) {
+        (0, _) => "no 34 0\n".to_string(),
+        (p, b) => format!("ok {p} {b}\n"),
+    };
+    line.repeat(times as usize)
+}
+
+/// Seconds for one query of the program and of the twin, the least of some rounds. What a
+/// run with no work takes is taken off the program's.
+fn time_fast(plan: &Plan, list: &List) -> Result<(f64, f64), String> {
+    let query = list.query(P_MAX);
+    let once = twin_run(list, 1).max(1e-6);
+    let times = ((0.1 / once) as u64).clamp(1, 20_000);
+    let (mut program, mut empty, mut own) = (f64::MAX, f64::MAX, f64::MAX);
+    for _ in 0..plan.rounds {
+        let (taken, output) = program_run(&plan.program, &query, times)?;
+        if output != expected(list, times).as_bytes() {
+            return Err(format!("{query}: the program's answer is not the twin's"));
+        }
+        program = program.min(taken);
+        empty = empty.min(program_run(&plan.program, "supply 1 1 1", 1)?.0);
+        own = own.min(twin_run(list, times));
+    }
+    Ok(((program - empty) / times as f64, own / times as f64))
+}
+
+/// Seconds for the plain reading at P_max 2,000. It is run with a growing P_max for some
+/// seconds; its steps at 2,000 are counted, and the least time of a step seen, which is
+/// kind to it, gives the time.
+fn time_plain(list: &List, full: bool) -> f64 {
+    let whole = plain_work(list, P_MAX);
+    println!("  plain reading: {whole} steps at P_max 2000");
+    let mut least = f64::MAX;
+    let mut p_max = 20;
+    loop {
+        let (work, taken) = (plain_work(list, p_max), plain_run(list, p_max));
+        let step = taken / work as f64;
+        println!("    P_max {p_max:>4}: {work:>14} steps {taken:>9.3} s {:>6.3} ns a step", step * 1e9);
+        least = least.min(step);
+        if p_max == P_MAX || p_max >= 80 && !full && taken * 8.0 > 6.0 {
+            break;
+        }
+        p_max = (p_max * 2).min(P_MAX);
+    }
+    let scaled = least * whole as f64;
+    println!(
+        "    {:.3} ns a step give {scaled:.3} s at P_max 2000; the longest run had P_max {p_max}",
+        least * 1e9
+    );
+    scaled
+}
+
+fn time_list(plan: &Plan, name: &str, list: &List) -> Result<Row, String> {
+    println!("{name}: {} lengths looked at by the fast search", list.lengths());
+    println!("  {}", list.query(P_MAX));
+    let (program, twin) = time_fast(plan, list)?;
+    let plain = time_plain(list, plan.full);
+    Ok(Row { program, twin, plain })
+}
+
+/// Lists that are hard for the plain reading, whatever they cost the fast search.
+fn hard_for_plain() -> List {
+    let periods: Vec<u32> = (0..16).map(|k| 1925 + 5 * k).collect();
+    let costs = vec![40; 16];
+    List { periods, costs }
+}
+
+fn small_stack(program: &str, list: &List) -> Result<String, String> {
+    let script = format!("ulimit -s 256 && exec {program}");
+    let query = list.query(P_MAX) + "\n";
+    let output = pipe::feed_command(&["sh", "-c", &script], query.as_bytes())?;
+    if output == expected(list, 1).as_bytes() {
+        return Ok("with a stack of 256 KB: the same answer".to_string());
+    }
+    Err("with a stack of 256 KB: another answer or none".to_string())
+}
+
+fn table(rows: &[(String, Row)]) {
+    println!();
+    println!("one best interface, 16 tasks, P_max 2000; times in ms");
+    println!("list               proved      twin         plain  plain/proved  proved/twin");
+    for (name, row) in rows {
+        println!(
+            "{name:<14} {:>10.4} {:>9.4} {:>13.1} {:>13.0} {:>12.2}",
+            row.program * 1e3,
+            row.twin * 1e3,
+            row.plain * 1e3,
+            row.plain / row.program,
+            row.program / row.twin
+        );
+    }
+}
+
+pub fn run(plan: &Plan) -> Result<String, String> {
+    let start = Instant::now();
+    let found = bad_lists::search(plan.seed, plan.families, plan.changes, &bad_lists::known());
+    let tried = plan.families + plan.changes * found.len() as u64;
+    println!("searched {tried} lists in {:.1} s, seed {}", start.elapsed().as_secs_f64(), plan.seed);
+    let mut rows = Vec::new();
+    for (place, (_, list)) in found.iter().take(3).enumerate() {
+        let name = format!("worst {}", place + 1);
+        let row = time_list(plan, &name, list)?;
+        rows.push((name, row));
+    }
+    let hard = hard_for_plain();
+    rows.push(("long periods".to_string(), time_list(plan, "long periods", &hard)?));
+    table(&rows);
+    println!("{}", small_stack(&plan.program, &found[0].1)?);
+    let worst = &rows[0].1;
+    Ok(format!(
+        "bench-sizing: worst list {:.3} ms, plain/proved {:.0}, proved/twin {:.2}",
+        worst.program * 1e3,
+        worst.plain / worst.program,
+        worst.program / worst.twin
+    ))
+}

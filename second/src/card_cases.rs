@@ -1,0 +1,351 @@
+//! Which cases a call meets, told from the card before and after it.
+
+use crate::endings;
+use crate::reached::Reached;
+use crate::refusal::Refusal;
+use crate::turns::{Call, Change, Charged, Core, Description, Reply, Vcpu};
+use crate::turns::{LARGEST_IDENTIFIER, LARGEST_PERIOD, LARGEST_TIME, MOST_PENDING, MOST_VCPUS};
+use std::collections::BTreeSet;
+
+/// What is remembered from call to call.
+#[derive(Default)]
+pub struct Notes {
+    /// The identifier that the last accepted call removed.
+    pub removed: Option<u32>,
+    at_one_moment: u32,
+    folded: BTreeSet<u32>,
+}
+
+/// What a case needs to know of the card before the call.
+pub struct Before {
+    last: u64,
+    timer: Option<u64>,
+    running: Option<Vcpu>,
+    count: usize,
+    on_card: bool,
+    was_runnable: bool,
+    returns: Vec<(bool, usize)>,
+}
+
+fn identifier(change: &Change) -> Option<u32> {
+    match change {
+        Change::Admit(description) => Some(description.identifier),
+        Change::Wake(identifier) | Change::Block(identifier) | Change::Remove(identifier) => {
+            Some(*identifier)
+        }
+        Change::Tick => None,
+    }
+}
+
+fn word(change: &Change) -> &'static str {
+    match change {
+        Change::Admit(_) => "admit",
+        Change::Wake(_) => "wake",
+        Change::Block(_) => "block",
+        Change::Remove(_) => "remove",
+        Change::Tick => "tick",
+    }
+}
+
+pub fn before(core: &Core, call: &Call) -> Before {
+    let vcpu = identifier(&call.change).and_then(|identifier| core.vcpus.get(&identifier));
+    let returning = |vcpu: &Vcpu| {
+        let all = vcpu.pending_count(core.last);
+        (vcpu.runnable, all - vcpu.pending_count(call.time.max(core.last)))
+    };
+    Before {
+        last: core.last,
+        timer: core.timer,
+        running: core.chosen().map(Vcpu::without_history),
+        count: core.vcpus.len(),
+        on_card: vcpu.is_some(),
+        was_runnable: vcpu.is_some_and(|vcpu| vcpu.runnable),
+        returns: core.vcpus.values().map(returning).collect(),
+    }
+}
+
+pub fn note(
+    before: &Before,
+    call: &Call,
+    answer: &Result<Reply, Refusal>,
+    core: &Core,
+    notes: &mut Notes,
+    reached: &mut Reached,
+) {
+    match answer {
+        Err(refusal) => note_refusal(before, call, refusal, core, reached),
+        Ok(reply) => {
+            reached.add(format!("{} ok", word(&call.change)));
+            note_time(before, call, reached);
+            note_moment(before, call, notes, reached);
+            note_charge(before, call, core, notes, reached);
+            note_returns(before, reached);
+            note_change(before, call, core, reached);
+            note_choice(before, core, reached);
+            note_timer(reply, core, reached);
+        }
+    }
+}
+
+fn note_refusal(before: &Before, call: &Call, refusal: &Refusal, core: &Core, reached: &mut Reached) {
+    let number = refusal.number;
+    reached.add(format!("{} no {number}", word(&call.change)));
+    let late = before.timer.is_some_and(|timer| call.time > timer);
+    let bad_admit = match call.change {
+        Change::Admit(Description { period, capacity, .. }) => {
+            period < 1 || period > LARGEST_PERIOD || capacity < 1 || capacity > period
+        }
+        _ => false,
+    };
+    let admit = word(&call.change) == "admit";
+    let unknown = !admit && word(&call.change) != "tick" && !before.on_card;
+    let full = before.count == MOST_VCPUS;
+    reached.add_if(number == 1 && late, "1 before 3");
+    reached.add_if(number == 1 && unknown, "1 before 7");
+    reached.add_if(number == 1 && call.time == LARGEST_TIME + 1, "1 by one tick");
+    reached.add_if(number == 2 && unknown, "2 before 7");
+    reached.add_if(number == 2 && bad_admit, "2 before 5");
+    reached.add_if(number == 3 && unknown, "3 before 7");
+    reached.add_if(number == 3 && bad_admit, "3 before 5");
+    reached.add_if(number == 3 && refusal.detail + 1 == call.time, "3 by one tick");
+    reached.add_if(number == 5 && before.on_card, "5 before 6");
+    reached.add_if(number == 5 && full, "5 before 8");
+    reached.add_if(number == 6 && full, "6 before 8");
+    if let (5, Change::Admit(description)) = (number, call.change) {
+        note_range(&description, reached);
+    }
+    if let (7, Some(identifier)) = (number, identifier(&call.change)) {
+        reached.add_if(has_same_low_bits(core, identifier), "7 though the low 16 bits are on the card");
+    }
+}
+
+fn note_range(description: &Description, reached: &mut Reached) {
+    let Description { period, capacity, .. } = *description;
+    reached.add_if(period == 0 && capacity == 0, "5: both 0");
+    reached.add_if(period == 0 && capacity > 0, "5: period 0");
+    reached.add_if(period == LARGEST_PERIOD + 1, "5: period 1000001");
+    reached.add_if(period > 0 && capacity == 0, "5: capacity 0");
+    reached.add_if(period > 0 && capacity == period.wrapping_add(1), "5: capacity above the period");
+}
+
+fn has_same_low_bits(core: &Core, identifier: u32) -> bool {
+    core.vcpus.keys().any(|&other| other != identifier && other & 0xffff == identifier & 0xffff)
+}
+
+fn note_time(before: &Before, call: &Call, reached: &mut Reached) {
+    let gap = before.running.is_none() && call.time > before.last;
+    reached.add_if(gap && before.timer.is_some(), "idle with a timer");
+    reached.add_if(gap && before.timer.is_none(), "idle without a timer");
+    reached.add_if(before.timer == Some(call.time), "a call at the timer");
+    reached.add_if(before.timer == Some(call.time + 1), "a call just before the timer");
+    reached.add_if(call.time == LARGEST_TIME, "the largest time");
+}
+
+fn note_moment(before: &Before, call: &Call, notes: &mut Notes, reached: &mut Reached) {
+    let same = call.time == before.last;
+    notes.at_one_moment = if same { notes.at_one_moment + 1 } else { 0 };
+    reached.add_if(notes.at_one_moment >= 1, "two calls at one moment");
+    reached.add_if(notes.at_one_moment >= 4, "five calls at one moment");
+    if let (true, Some(removed), Change::Admit(description)) = (same, notes.removed, call.change) {
+        reached.add("removal and admission at one moment");
+        reached.add_if(removed == description.identifier, "the same identifier again at one moment");
+        reached
+            .add_if(before.count == MOST_VCPUS - 1, "removal from a full card and admission at one moment");
+    }
+    notes.removed = match call.change {
+        Change::Remove(identifier) => Some(identifier),
+        _ => None,
+    };
+}
+
+fn note_charge(before: &Before, call: &Call, core: &Core, notes: &mut Notes, reached: &mut Reached) {
+    let case = match core.charged {
+        Charged::Nobody => "nobody charged",
+        Charged::Nothing => "nothing charged",
+        Charged::Entry => "a new entry",
+        Charged::Join => "a join",
+        Charged::Fold => "a fold",
+    };
+    reached.add(case);
+    let Some(held) = &before.running else { return };
+    let Description { identifier, period, capacity, .. } = held.description;
+    let entry = core.charged == Charged::Entry;
+    let whole = capacity == period;
+    reached.add_if(entry && whole && held.use_ended == Some(before.last), "a slice cut where C is T");
+    reached.add_if(entry && call.time - before.last == u64::from(period), "a whole period in one charge");
+    reached
+        .add_if(call.change == Change::Remove(identifier) && call.time > before.last, "removed while it ran");
+    let folded = notes.folded.contains(&identifier);
+    reached.add_if(folded && core.charged == Charged::Join, "a join behind a fold");
+    reached.add_if(folded && core.charged == Charged::Fold, "a fold behind a fold");
+    match core.charged {
+        Charged::Fold => drop(notes.folded.insert(identifier)),
+        Charged::Entry => drop(notes.folded.remove(&identifier)),
+        _ => (),
+    }
+    if !core.vcpus.contains_key(&identifier) {
+        notes.folded.remove(&identifier);
+    }
+}
+
+fn note_returns(before: &Before, reached: &mut Reached) {
+    let returning = before.returns.iter().filter(|(_, count)| *count > 0);
+    reached.add_if(returning.clone().any(|(runnable, _)| !runnable), "a return to one not runnable");
+    reached.add_if(returning.clone().any(|(_, count)| *count > 1), "two entries of one return");
+    reached.add_if(returning.count() > 1, "returns to two");
+}
+
+fn note_change(before: &Before, call: &Call, core: &Core, reached: &mut Reached) {
+    match call.change {
+        Change::Wake(_) => reached.add_if(before.was_runnable, "a wake of a runnable one"),
+        Change::Block(_) => reached.add_if(!before.was_runnable, "a block of one not runnable"),
+        Change::Admit(description) => {
+            reached.add_if(core.vcpus.len() == MOST_VCPUS, "the card becomes full");
+            note_description(&description, core, reached);
+        }
+        _ => (),
+    }
+}
+
+fn note_description(description: &Description, core: &Core, reached: &mut Reached) {
+    let Description { identifier, period, capacity, priority } = *description;
+    reached.add_if(has_same_low_bits(core, identifier), "identifiers equal in their low 16 bits");
+    reached.add_if(identifier == 0, "identifier 0");
+    reached.add_if(identifier == LARGEST_IDENTIFIER, "identifier 16777215");
+    reached.add_if(period == 1, "period 1");
+    reached.add_if(period == LARGEST_PERIOD, "period 1000000");
+    reached.add_if(capacity == period, "capacity is the period");
+    reached.add_if(capacity == 1 && period > 1, "capacity 1");
+    reached.add_if(priority == 0, "priority 0");
+    reached.add_if(priority == 255, "priority 255");
+}
+
+fn note_choice(before: &Before, core: &Core, reached: &mut Reached) {
+    let able = |vcpu: &&Vcpu| vcpu.runnable && vcpu.usable(core.last) > 0;
+    if let Some(held) = &before.running {
+        let now = core.vcpus.get(&held.description.identifier);
+        let still = now.filter(able).is_some();
+        let chosen = core.chosen();
+        let preempted = still && chosen.is_some_and(|vcpu| vcpu.more_urgent_than(held));
+        reached.add_if(preempted, "preemption");
+        let used_up = now.is_some_and(|vcpu| vcpu.runnable && vcpu.usable(core.last) == 0);
+        reached.add_if(used_up, "the running one is used up");
+    }
+    let Some(chosen) = core.chosen() else { return };
+    let same = |vcpu: &Vcpu| vcpu.description.priority == chosen.description.priority;
+    let ties = core.vcpus.values().filter(able).filter(|vcpu| same(vcpu)).count() > 1;
+    reached.add_if(ties, "equal priority");
+    let passed = core.vcpus.values().any(|vcpu| vcpu.runnable && vcpu.more_urgent_than(chosen));
+    reached.add_if(passed, "a more urgent one without ticks");
+}
+
+fn note_timer(reply: &Reply, core: &Core, reached: &mut Reached) {
+    let full = core.vcpus.values().any(|vcpu| vcpu.pending_count(core.last) == MOST_PENDING);
+    reached.add_if(full, "eight pending");
+    let Some(timer) = reply.timer else {
+        let case = if core.vcpus.is_empty() {
+            "no timer on an empty card"
+        } else {
+            "no timer with VCPUs on the card"
+        };
+        reached.add(case);
+        return;
+    };
+    reached.add_if(timer > LARGEST_TIME, "a timer above the largest time");
+    if reply.run.is_none() {
+        reached.add("a timer in idle");
+        return;
+    }
+    let used_up = reply.time + reply.usable;
+    reached.add_if(timer == used_up, "a timer from the usable ticks");
+    reached.add_if(timer < used_up, "a timer from a more urgent return");
+    reached.add_if(core.return_awaited() == Some(used_up), "both timers equal");
+}
+
+/// All the cases that a comparison must meet.
+pub fn asked() -> Vec<String> {
+    let mut all: Vec<String> = PLAIN.iter().map(|case| case.to_string()).collect();
+    all.extend(endings::all_cases());
+    for word in ["admit", "wake", "block", "remove", "tick"] {
+        all.push(format!("{word} ok"));
+        all.extend([1, 2, 3].map(|row| format!("{word} no {row}")));
+    }
+    all.extend([5, 6, 8].map(|row| format!("admit no {row}")));
+    all.extend(["wake", "block", "remove"].map(|word| format!("{word} no 7")));
+    for tag in 1..=5 {
+        all.push(format!("time of tag {tag} damaged"));
+    }
+    for tag in 1..=4 {
+        all.push(format!("identifier of tag {tag} damaged"));
+    }
+    all.extend(["period", "capacity", "priority"].map(|field| format!("{field} of tag 1 damaged")));
+    all
+}
+
+const PLAIN: [&str; 65] = [
+    "1 before 3",
+    "1 before 7",
+    "1 by one tick",
+    "2 before 7",
+    "2 before 5",
+    "3 before 7",
+    "3 before 5",
+    "3 by one tick",
+    "5 before 6",
+    "5 before 8",
+    "6 before 8",
+    "5: both 0",
+    "5: period 0",
+    "5: period 1000001",
+    "5: capacity 0",
+    "5: capacity above the period",
+    "7 though the low 16 bits are on the card",
+    "idle with a timer",
+    "idle without a timer",
+    "a call at the timer",
+    "a call just before the timer",
+    "the largest time",
+    "two calls at one moment",
+    "five calls at one moment",
+    "removal and admission at one moment",
+    "the same identifier again at one moment",
+    "removal from a full card and admission at one moment",
+    "nobody charged",
+    "nothing charged",
+    "a new entry",
+    "a join",
+    "a fold",
+    "a slice cut where C is T",
+    "a whole period in one charge",
+    "removed while it ran",
+    "a join behind a fold",
+    "a fold behind a fold",
+    "a return to one not runnable",
+    "two entries of one return",
+    "returns to two",
+    "a wake of a runnable one",
+    "a block of one not runnable",
+    "the card becomes full",
+    "identifiers equal in their low 16 bits",
+    "identifier 0",
+    "identifier 16777215",
+    "period 1",
+    "period 1000000",
+    "capacity is the period",
+    "capacity 1",
+    "priority 0",
+    "priority 255",
+    "preemption",
+    "the running one is used up",
+    "equal priority",
+    "a more urgent one without ticks",
+    "eight pending",
+    "no timer on an empty card",
+    "no timer with VCPUs on the card",
+    "a timer above the largest time",
+    "a timer in idle",
+    "a timer from the usable ticks",
+    "a timer from a more urgent return",
+    "both timers equal",
+    "bytes behind a stop",
+];

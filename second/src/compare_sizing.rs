@@ -1,0 +1,184 @@
+//! `compare-sizing`: the given program and this one on the same random queries.
+
+use crate::pipe;
+use crate::queries::Queries;
+use crate::query_cases;
+use crate::reached::Reached;
+use crate::sizing::{self, Answer, Reader};
+
+/// Inputs whose end or layout matters, each run alone.
+const ENDS: [&[u8]; 14] = [
+    b"",
+    b"\n",
+    b"\r\n",
+    b"\n\n\r\n\n",
+    b"supply 4 3 7",
+    b"supply 4 3 7\n",
+    b"supply 4 3 7\n\n",
+    b"supply 4 3 7\r\nbest 3 1 1",
+    b"best",
+    b"best 3 1 1 ",
+    b"check 3",
+    b"sup",
+    b"supply 4 3 7\r",
+    b"\r",
+];
+
+pub struct Plan {
+    pub program: String,
+    pub seed: u64,
+    pub count: u64,
+    pub list: bool,
+}
+
+struct Asked {
+    line: Vec<u8>,
+    answer: Option<Answer>,
+}
+
+/// The answer of one line. The last may have no newline.
+fn answer_alone(line: &[u8]) -> Option<Answer> {
+    let mut reader = Reader::new();
+    for &byte in line {
+        if let Some(answer) = reader.take(byte) {
+            return Some(answer);
+        }
+    }
+    reader.end()
+}
+
+fn ask_all(plan: &Plan, reached: &mut Reached) -> Vec<Asked> {
+    let mut queries = Queries::new(plan.seed);
+    let mut all: Vec<Asked> = Vec::new();
+    for _ in 1..plan.count {
+        let line = queries.next();
+        let answer = answer_alone(&line);
+        query_cases::note(&line, answer.as_ref(), reached);
+        all.push(Asked { line, answer });
+    }
+    let line = b"best 5 5 1 10 3".to_vec();
+    let answer = answer_alone(&line);
+    reached.add("a last line without a newline");
+    all.push(Asked { line, answer });
+    all
+}
+
+fn shown(bytes: &[u8]) -> String {
+    let text = bytes.escape_ascii().to_string();
+    if text.len() <= 2000 {
+        return text;
+    }
+    format!("{}.. ({} bytes)", &text[..2000], bytes.len())
+}
+
+/// The first answer that differs, told in words.
+fn first_difference(asked: &[Asked], output: &[u8]) -> Option<String> {
+    let mut rest = output;
+    let mut number = 0;
+    for query in asked {
+        let Some(answer) = &query.answer else { continue };
+        number += 1;
+        let mine = answer.line() + "\n";
+        let end = rest.iter().position(|&byte| byte == b'\n').map_or(rest.len(), |at| at + 1);
+        let (theirs, behind) = rest.split_at(end);
+        if theirs != mine.as_bytes() {
+            return Some(format!(
+                "answer {number} differs\n  query:   {}\n  program: {}\n  second:  {}",
+                shown(&query.line),
+                shown(theirs),
+                shown(mine.as_bytes())
+            ));
+        }
+        rest = behind;
+    }
+    (!rest.is_empty()).then(|| format!("more than {number} answers: {}", shown(rest)))
+}
+
+fn compare_ends(program: &str) -> Result<(), String> {
+    for input in ENDS {
+        let theirs = pipe::feed(program, input)?;
+        let mine: String = sizing::answers(input).iter().map(|a| a.line() + "\n").collect();
+        if theirs != mine.as_bytes() {
+            return Err(format!(
+                "whole input \"{}\" differs\n  program: {}\n  second:  {}",
+                shown(input),
+                shown(&theirs),
+                shown(mine.as_bytes())
+            ));
+        }
+    }
+    Ok(())
+}
+
+/// Each line is answered before the next one is sent.
+fn compare_talk(program: &str) -> Result<(), String> {
+    let lines = ["supply 4 3 7\n", "\n", "best 5 5 1 10 3\r\n", "sup\n", "least 5 2 2 4 1\n"];
+    let mut parts = Vec::new();
+    let mut mine = Vec::new();
+    for line in lines {
+        let answer = answer_alone(line.as_bytes());
+        parts.push((line.as_bytes().to_vec(), usize::from(answer.is_some())));
+        mine.extend(answer.map(|a| a.line()));
+    }
+    let theirs = pipe::talk(program, &parts)?;
+    if theirs != mine {
+        return Err(format!("talk differs\n  program: {theirs:?}\n  second:  {mine:?}"));
+    }
+    Ok(())
+}
+
+pub fn run(plan: &Plan) -> Result<String, String> {
+    compare_ends(&plan.program)?;
+    compare_talk(&plan.program)?;
+    let mut reached = Reached::default();
+    let asked = ask_all(plan, &mut reached);
+    let input: Vec<u8> = asked.iter().flat_map(|query| query.line.iter().copied()).collect();
+    let output = pipe::feed(&plan.program, &input)?;
+    if let Some(difference) = first_difference(&asked, &output) {
+        return Err(format!("seed {}: {difference}", plan.seed));
+    }
+    let cases = query_cases::asked();
+    if plan.list {
+        reached.list(&cases);
+    }
+    let missing = reached.missing(&cases);
+    if !missing.is_empty() {
+        return Err(format!("seed {}: cases not reached: {}", plan.seed, missing.join(", ")));
+    }
+    Ok(format!("compare-sizing: {} queries agree, {} cases reached", asked.len(), cases.len()))
+}
+
+#[cfg(test)]
+mod tests {
+    use super::*;
+
+    fn some_asked() -> Vec<Asked> {
+        let lines = ["supply 4 3 7\n", "\n", "least 5 2 2 4 1\n", "best"];
+        let asked = |line: &str| Asked { line: line.into(), answer: answer_alone(line.as_bytes()) };
+        lines.map(asked).into()
+    }
+
+    #[test]
+    fn every_kind_of_difference_is_seen() {
+        let asked = some_asked();
+        assert_eq!(first_difference(&asked, b"ok 4\nno 34 0\nbad field 1\n"), None);
+        let wrong: [&[u8]; 7] = [
+            b"",
+            b"ok 4\nno 34 0\n",
+            b"ok 4\nno 34 0\nbad field 1",
+            b"ok 4\nno 34 0\nbad field 1\n\n",
+            b"ok 4\n\nno 34 0\nbad field 1\n",
+            b"ok 4\nno 33 0\nbad field 1\n",
+            b"ok 4\r\nno 34 0\nbad field 1\n",
+        ];
+        for output in wrong {
+            assert!(first_difference(&asked, output).is_some(), "{output:?}");
+        }
+    }
+
+    #[test]
+    fn a_difference_shows_the_query() {
+        let text = first_difference(&some_asked(), b"ok 4\nno 33 0\n").unwrap();
+        assert!(text.contains("least 5 2 2 4 1") && text.contains("no 33 0"));
+    }
+}

@@ -1,0 +1,300 @@
+//! Random runs of event records. The generator follows the card with its own turns, so
+//! that most calls are accepted, and notes which cases a run meets.
+
+use crate::card_cases::{self, Notes};
+use crate::endings;
+use crate::lines;
+use crate::random::Random;
+use crate::reached::Reached;
+use crate::records;
+use crate::turns::{Call, Change, Core, Description, LARGEST_IDENTIFIER, LARGEST_PERIOD, LARGEST_TIME};
+
+/// One input for the card and the lines that it should give. Only the last record can be
+/// cut short or damaged in its header; what stands behind it is not to be looked at.
+#[derive(Default)]
+pub struct Run {
+    pub records: Vec<Vec<u8>>,
+    pub behind: Vec<u8>,
+    pub lines: Vec<String>,
+}
+
+impl Run {
+    pub fn input(&self) -> Vec<u8> {
+        let mut bytes = self.records.concat();
+        bytes.extend(&self.behind);
+        bytes
+    }
+
+    #[cfg(test)]
+    pub fn output(&self) -> String {
+        self.lines.concat()
+    }
+}
+
+#[derive(Clone, Copy)]
+enum Capacities {
+    Any,
+    Whole,
+    Few,
+    Many,
+}
+
+/// What kind of card a run follows.
+#[derive(Clone, Copy)]
+struct Mood {
+    late: bool,
+    most: usize,
+    periods: (u32, u32),
+    capacities: Capacities,
+    step: u64,
+    /// Wakes and blocks in turn mostly, so that slices are many and short.
+    blinks: bool,
+}
+
+const CALM: Mood =
+    Mood { late: false, most: 4, periods: (1, 12), capacities: Capacities::Any, step: 3, blinks: false };
+
+const MOODS: [Mood; 10] = [
+    CALM,
+    Mood { most: 2, periods: (3, 30), capacities: Capacities::Whole, step: 5, ..CALM },
+    Mood { most: 5, periods: (60, 300), capacities: Capacities::Many, step: 4, ..CALM },
+    Mood { most: 8, periods: (100, 2000), capacities: Capacities::Many, step: 9, ..CALM },
+    Mood { most: 32, periods: (5, 60), capacities: Capacities::Few, step: 4, ..CALM },
+    Mood { most: 32, periods: (1000, 100_000), step: 90, ..CALM },
+    Mood { late: true, periods: (1, 40), ..CALM },
+    Mood { most: 12, periods: (1, LARGEST_PERIOD), step: 40_000, ..CALM },
+    Mood { most: 1, periods: (90, 900), capacities: Capacities::Many, blinks: true, ..CALM },
+    Mood { most: 3, periods: (90, 900), capacities: Capacities::Many, blinks: true, ..CALM },
+];
+
+pub struct Generator<'a> {
+    random: Random,
+    mood: Mood,
+    pool: Vec<u32>,
+    core: Core,
+    notes: Notes,
+    run: Run,
+    reached: &'a mut Reached,
+}
+
+/// The run of a seed and a place, of about so many records.
+pub fn run(seed: u64, place: u64, length: u64, reached: &mut Reached) -> Run {
+    let mut random = Random::new(seed.wrapping_mul(1_000_003).wrapping_add(place));
+    let mood = MOODS[(place % MOODS.len() as u64) as usize];
+    let pool = identifiers(&mut random);
+    let core = Core::new();
+    let run = Run::default();
+    let notes = Notes::default();
+    let mut generator = Generator { random, mood, pool, core, notes, run, reached };
+    generator.fill(length);
+    generator.finish(place);
+    generator.run
+}
+
+/// Pairs that are equal in their low 16 bits, and the two ends.
+fn identifiers(random: &mut Random) -> Vec<u32> {
+    let mut pool = vec![0, LARGEST_IDENTIFIER, 0x00_ffff, 0x01_0000, 257, 65793, 65537];
+    while pool.len() < 48 {
+        let low = random.below(1 << 16) as u32;
+        pool.extend([low, low + ((random.between(1, 255) as u32) << 16)]);
+    }
+    pool
+}
+
+impl Generator<'_> {
+    fn fill(&mut self, length: u64) {
+        if self.mood.late {
+            let time = LARGEST_TIME - self.random.between(0, 3 * length);
+            self.put(records::write(&Call { time, change: Change::Tick }));
+        }
+        let mut at_the_end = 0;
+        for _ in 0..length {
+            if self.core.last == LARGEST_TIME {
+                at_the_end += 1;
+            }
+            if at_the_end > 60 {
+                return;
+            }
+            let call = self.call();
+            let mut record = records::write(&call);
+            if self.random.once_in(60) {
+                self.damage(&mut record);
+            }
+            self.put(record);
+        }
+    }
+
+    /// Follows a whole record and keeps its line.
+    fn put(&mut self, record: Vec<u8>) {
+        let (call, _) = records::read(&record).expect("a whole record");
+        let before = card_cases::before(&self.core, &call);
+        let answer = self.core.call(&call);
+        card_cases::note(&before, &call, &answer, &self.core, &mut self.notes, self.reached);
+        self.run.lines.push(lines::line(&answer));
+        self.run.records.push(record);
+    }
+
+    /// Ends the run; the endings are gone through by the run's place.
+    fn finish(&mut self, place: u64) {
+        let ending = endings::ending(place, self.core.last, self.pool[0]);
+        self.reached.add(ending.case);
+        let Some(number) = ending.number else { return };
+        self.run.records.push(ending.record);
+        self.run.lines.push(format!("no {number} 0\n"));
+        if number != 20 && self.random.once_in(2) {
+            let time = self.core.last;
+            self.run.behind = records::write(&Call { time, change: Change::Tick });
+            self.reached.add("bytes behind a stop");
+        }
+    }
+
+    /// One byte of the payload becomes another.
+    fn damage(&mut self, record: &mut [u8]) {
+        let place = records::HEADER + self.random.index(record.len() - records::HEADER);
+        record[place] ^= self.random.between(1, 255) as u8;
+        let field = match place {
+            3..=10 => "time",
+            11..=13 => "identifier",
+            14..=17 => "period",
+            18..=21 => "capacity",
+            _ => "priority",
+        };
+        self.reached.add(format!("{field} of tag {} damaged", record[0]));
+    }
+
+    fn call(&mut self) -> Call {
+        Call { time: self.time(), change: self.change() }
+    }
+
+    fn time(&mut self) -> u64 {
+        let last = self.core.last;
+        let wrong = self.random.below(400);
+        match (wrong, self.core.timer) {
+            (0..=5, Some(timer)) => return timer + 1,
+            (6..=8, Some(timer)) => return timer + self.random.between(1, 50),
+            (9..=12, _) => return last.saturating_sub(self.random.between(1, 20)),
+            (13, _) => return LARGEST_TIME + 1,
+            (14, _) => return self.random.next() | (1 << 50),
+            (15, _) => return u64::MAX,
+            _ => (),
+        }
+        let step = self.random.between(1, self.mood.step);
+        let free = if self.random.once_in(50) { 20 * self.mood.step } else { step };
+        let short = self.mood.blinks && !self.random.once_in(12);
+        let how = if short { 9 } else { self.random.below(10) };
+        let wanted = match (how, self.core.timer) {
+            (0..=2, _) => last,
+            (3..=4, Some(timer)) => timer,
+            (5, Some(timer)) => self.random.between(last, timer),
+            (6, Some(timer)) => (timer - 1).max(last),
+            (_, Some(timer)) => (last + step).min(timer),
+            (_, None) => last + free,
+        };
+        wanted.min(LARGEST_TIME)
+    }
+
+    fn change(&mut self) -> Change {
+        let count = self.core.vcpus.len();
+        let filling = count < self.mood.most && self.random.below(10) < 3;
+        if filling || count == 0 && !self.random.once_in(10) {
+            return self.admit();
+        }
+        if self.mood.blinks && !self.random.once_in(8) {
+            return self.blink();
+        }
+        match self.random.below(100) {
+            0..=29 => Change::Tick,
+            30..=59 => Change::Wake(self.on_card(false)),
+            60..=86 => Change::Block(self.on_card(true)),
+            87..=89 => self.admit(),
+            90..=91 => Change::Wake(self.any()),
+            92..=93 => Change::Block(self.any()),
+            94..=95 => Change::Remove(self.any()),
+            96 => Change::Remove(self.core.running.unwrap_or(0)),
+            97 => Change::Admit(self.description()),
+            _ if self.mood.most < 32 => Change::Remove(self.on_card(true)),
+            _ => Change::Tick,
+        }
+    }
+
+    fn blink(&mut self) -> Change {
+        match self.core.running {
+            Some(identifier) => Change::Block(identifier),
+            None => Change::Wake(self.on_card(false)),
+        }
+    }
+
+    fn any(&mut self) -> u32 {
+        *self.random.pick(&self.pool)
+    }
+
+    /// An identifier on the card, if one can be had with this readiness to run.
+    fn on_card(&mut self, runnable: bool) -> u32 {
+        let vcpus = self.core.vcpus.values().filter(|vcpu| vcpu.runnable == runnable);
+        let fitting: Vec<u32> = vcpus.map(|vcpu| vcpu.description.identifier).collect();
+        if fitting.is_empty() || self.random.once_in(30) {
+            return self.any();
+        }
+        *self.random.pick(&fitting)
+    }
+
+    /// An admit that is mostly accepted. Now and then the identifier just removed comes
+    /// back at once.
+    fn admit(&mut self) -> Change {
+        let mut description = self.description();
+        for _ in 0..4 {
+            if self.core.vcpus.contains_key(&description.identifier) {
+                description.identifier = self.any();
+            }
+        }
+        if self.random.once_in(20) {
+            self.spoil(&mut description);
+        }
+        Change::Admit(description)
+    }
+
+    fn description(&mut self) -> Description {
+        let (low, high) = self.mood.periods;
+        let period = match self.random.below(40) {
+            0 => 1,
+            1 => LARGEST_PERIOD,
+            _ => self.random.between(low.into(), high.into()) as u32,
+        };
+        let priority = match self.random.below(10) {
+            0 => 0,
+            1 => 255,
+            2 => self.random.below(256) as u8,
+            _ => self.random.below(4) as u8,
+        };
+        let identifier = match self.notes.removed {
+            Some(identifier) if self.random.once_in(3) => identifier,
+            _ => self.any(),
+        };
+        Description { identifier, period, capacity: self.capacity(period), priority }
+    }
+
+    fn capacity(&mut self, period: u32) -> u32 {
+        let whole = u64::from(period);
+        let capacity = match (self.random.below(12), self.mood.capacities) {
+            (0, _) => whole,
+            (1, _) => 1,
+            (2..=8, Capacities::Whole) => whole,
+            (_, Capacities::Few) => self.random.between(1, whole.div_ceil(16)),
+            (_, Capacities::Many) => self.random.between(whole.div_ceil(3), whole),
+            _ => self.random.between(1, whole),
+        };
+        capacity as u32
+    }
+
+    fn spoil(&mut self, description: &mut Description) {
+        let period = description.period;
+        match self.random.below(6) {
+            0 => description.period = 0,
+            1 => description.period = LARGEST_PERIOD + 1,
+            2 => description.period = u32::MAX,
+            3 => description.capacity = 0,
+            4 => description.capacity = period + 1,
+            _ => (description.period, description.capacity) = (0, 0),
+        }
+    }
+}

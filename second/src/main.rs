@@ -1,0 +1,131 @@
+//! The second program: an independent reading of the scope paper, and what compares
+//! the proved programs with it.
+
+mod bad_lists;
+mod bench_sizing;
+mod card_cases;
+mod compare_card;
+mod compare_sizing;
+mod endings;
+mod generate;
+mod inplace;
+mod inplace_program;
+mod lines;
+mod options;
+mod outside;
+mod pipe;
+mod plain_work;
+mod queries;
+mod query_cases;
+mod random;
+mod reached;
+mod records;
+mod refusal;
+mod shares;
+mod sizing;
+mod turns;
+mod twin;
+mod words;
+
+use options::Options;
+use std::io::{self, Read, Write};
+
+const USAGE: &str = "usage: second COMMAND
+from standard input to standard output:
+  sizing      queries to answers, by the plain reading
+  twin        best queries alone, by the fast algorithm
+  card        event records to lines
+  inplace     the same, in place
+  words       records in words to bytes
+  unwords     bytes to records in words
+with the program to try:
+  compare-sizing PROGRAM [--seed S] [--count N] [--list 1]
+  compare-card PROGRAM [--seed S] [--records N] [--list 1]
+  outside PROGRAM [--seed S] [--runs N]
+  bench-sizing PROGRAM [--seed S] [--families N] [--changes N] [--rounds N] [--full 1]
+one run of a comparison, as records:
+  run [--seed S] [--records N] [--run K]
+  outside-run [--seed S] [--run K]";
+
+const RECORDS: u64 = 2_000_000;
+
+fn main() {
+    let words: Vec<String> = std::env::args().skip(1).collect();
+    let command = words.first().map_or("", String::as_str);
+    let behind = words.get(1..).unwrap_or(&[]);
+    if let Err(error) = Options::read(behind).and_then(|options| run(command, &options)) {
+        eprintln!("{error}");
+        std::process::exit(1);
+    }
+}
+
+fn run(command: &str, options: &Options) -> Result<(), String> {
+    match command {
+        "compare-sizing" | "compare-card" | "outside" | "bench-sizing" => {
+            println!("{}", try_program(command, options)?);
+            Ok(())
+        }
+        "run" | "outside-run" => write_run(command, options),
+        _ => filter(command).map_err(|error| error.to_string())?,
+    }
+}
+
+/// A command from standard input to standard output.
+fn filter(command: &str) -> io::Result<Result<(), String>> {
+    let (input, mut output) = (io::stdin().lock(), io::stdout().lock());
+    match command {
+        "sizing" => sizing::run(input, output)?,
+        "twin" => twin::run(input, output)?,
+        "card" => lines::run(input, output)?,
+        "inplace" => inplace_program::run(input, output)?,
+        "words" => match words::to_records(&io::read_to_string(input)?) {
+            Ok(bytes) => output.write_all(&bytes)?,
+            Err(error) => return Ok(Err(error)),
+        },
+        "unwords" => {
+            let bytes = input.bytes().collect::<io::Result<Vec<u8>>>()?;
+            output.write_all(words::from_records(&bytes).as_bytes())?;
+        }
+        _ => return Ok(Err(USAGE.to_string())),
+    }
+    Ok(Ok(()))
+}
+
+fn try_program(command: &str, options: &Options) -> Result<String, String> {
+    let program = options.program()?;
+    let seed = options.number("seed", 1);
+    let list = options.number("list", 0) != 0;
+    match command {
+        "compare-sizing" => {
+            let count = options.number("count", 100_000);
+            compare_sizing::run(&compare_sizing::Plan { program, seed, count, list })
+        }
+        "compare-card" => {
+            let records = options.number("records", RECORDS);
+            compare_card::run(&compare_card::Plan { program, seed, records, list })
+        }
+        "outside" => {
+            let runs = options.number("runs", 10_000);
+            outside::run(&outside::Plan { program, seed, runs })
+        }
+        _ => bench_sizing::run(&bench_sizing::Plan {
+            program,
+            seed,
+            families: options.number("families", 500),
+            changes: options.number("changes", 200),
+            rounds: options.number("rounds", 15),
+            full: options.number("full", 0) != 0,
+        }),
+    }
+}
+
+fn write_run(command: &str, options: &Options) -> Result<(), String> {
+    let (seed, place) = (options.number("seed", 1), options.number("run", 0));
+    let run = if command == "run" {
+        let records = options.number("records", RECORDS);
+        compare_card::run_at(seed, records, place, &mut reached::Reached::default())
+    } else {
+        outside::run_at(seed, place)
+    };
+    io::stdout().write_all(&run.input()).map_err(|error| error.to_string())
+}

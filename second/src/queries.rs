@@ -1,0 +1,292 @@
+//! Random sizing queries: small ones mostly, some at the limits, some refused, some broken.
+
+use crate::random::Random;
+
+const WORDS: [&str; 5] = ["supply", "demand", "check", "least", "best"];
+
+const NO_WORDS: [&[u8]; 14] = [
+    b"",
+    b"supplyy",
+    b"Supply",
+    b"suppl",
+    b"sup",
+    b"LEAST",
+    b"bests",
+    b"check\t",
+    b"\0",
+    b"demand\r",
+    b"ok",
+    b"\xc3\xa9",
+    b"bestbestbestbest",
+    b"\xff\xfe",
+];
+
+const NO_NUMBERS: [&[u8]; 14] =
+    [b"", b"x", b"-1", b"+1", b"1x", b"x1", b"0x5", b"1e2", b"1.0", b"\t", b"1\t", b"\0", b"\xb2", b"1\r"];
+
+/// A query in numbers. The tasks are (period, cost).
+struct Draft {
+    word: &'static str,
+    lead: Vec<u64>,
+    tasks: Vec<(u64, u64)>,
+}
+
+/// A query in bytes.
+struct Text {
+    word: Vec<u8>,
+    fields: Vec<Vec<u8>>,
+}
+
+impl Text {
+    fn line(&self) -> Vec<u8> {
+        let mut line = self.word.clone();
+        for field in &self.fields {
+            line.push(b' ');
+            line.extend(field);
+        }
+        line
+    }
+}
+
+impl Draft {
+    fn text(&self) -> Text {
+        let mut numbers = self.lead.clone();
+        for (period, cost) in &self.tasks {
+            numbers.extend([*period, *cost]);
+        }
+        let fields = numbers.iter().map(|x| x.to_string().into_bytes()).collect();
+        Text { word: self.word.as_bytes().to_vec(), fields }
+    }
+}
+
+/// An upper bound for the steps that the plain reading takes over a line.
+fn weight(text: &Text) -> u64 {
+    let number = |field: &Vec<u8>| std::str::from_utf8(field).ok()?.parse().ok();
+    let Some(numbers) = text.fields.iter().map(number).collect::<Option<Vec<u64>>>() else {
+        return 0;
+    };
+    let (times, skip) = match (&text.word[..], numbers.first()) {
+        (b"check", _) => (1, 2),
+        (b"least", Some(&p)) if p <= 2000 => (p, 1),
+        (b"best", Some(&p)) if p <= 2000 => (p * p / 2, 1),
+        _ => return 0,
+    };
+    let periods = numbers.iter().skip(skip).step_by(2).take(16);
+    let once: u64 = periods.zip(1..).map(|(&p, i)| p.min(2000) * i).sum();
+    times * once
+}
+
+const USUAL_WEIGHT: u64 = 2_000_000;
+const SELDOM_WEIGHT: u64 = 600_000_000;
+
+pub struct Queries {
+    random: Random,
+}
+
+impl Queries {
+    pub fn new(seed: u64) -> Queries {
+        Queries { random: Random::new(seed) }
+    }
+
+    /// One line with its newline.
+    pub fn next(&mut self) -> Vec<u8> {
+        let most = if self.random.once_in(2000) { SELDOM_WEIGHT } else { USUAL_WEIGHT };
+        loop {
+            let text = self.query();
+            if weight(&text) <= most {
+                let mut line = text.line();
+                line.extend(self.ending());
+                return line;
+            }
+        }
+    }
+
+    fn ending(&mut self) -> &'static [u8] {
+        match self.random.below(1000) {
+            0..=49 => b"\r\n",
+            50..=52 => b"\r\r\n",
+            _ => b"\n",
+        }
+    }
+
+    fn query(&mut self) -> Text {
+        match self.random.below(100) {
+            0..=54 => self.small().text(),
+            55..=64 => self.at_limits().text(),
+            65..=79 => self.refused().text(),
+            80..=87 => self.odd_numbers(),
+            88..=95 => self.broken(),
+            96..=97 => self.long_list(),
+            98 => self.no_word(),
+            _ => Text { word: Vec::new(), fields: Vec::new() },
+        }
+    }
+
+    fn tasks(&mut self, n: u64, longest: u64) -> Vec<(u64, u64)> {
+        let mut periods: Vec<u64> = (0..n).map(|_| self.random.between(1, longest)).collect();
+        periods.sort();
+        let share = self.random.between(1, 2 * n);
+        let cost = |p: u64| (p, self.random.between(1, (p / share).max(1)));
+        periods.into_iter().map(cost).collect()
+    }
+
+    /// Sixteen tasks that some budget meets.
+    fn light_tasks(&mut self) -> Vec<(u64, u64)> {
+        let mut periods: Vec<u64> = (0..16).map(|_| self.random.between(30, 60)).collect();
+        periods.sort();
+        periods.into_iter().map(|p| (p, 1)).collect()
+    }
+
+    fn small(&mut self) -> Draft {
+        let word = *self.random.pick(&WORDS);
+        let longest = *self.random.pick(&[3, 8, 20, 40]);
+        let n = if self.random.once_in(10) { 16 } else { self.random.between(1, 5) };
+        let tasks = match word {
+            "supply" => Vec::new(),
+            _ if n == 16 && self.random.once_in(2) => self.light_tasks(),
+            _ => self.tasks(n, longest),
+        };
+        let p = self.random.between(1, 20);
+        let lead = match word {
+            "supply" => vec![p, self.random.between(1, p), self.random.between(0, 100)],
+            "demand" => vec![self.random.between(1, n), self.random.between(0, 100)],
+            "check" => vec![p, self.random.between(1, p)],
+            _ => vec![p],
+        };
+        Draft { word, lead, tasks }
+    }
+
+    fn limit_tasks(&mut self, n: u64) -> Vec<(u64, u64)> {
+        let pool: &[u64] = if self.random.once_in(3) { &[1, 2, 3, 4] } else { &[1, 999, 1999, 2000] };
+        let mut periods: Vec<u64> = (0..n).map(|_| *self.random.pick(pool)).collect();
+        periods.sort();
+        let mut cost = |p: u64| *self.random.pick(&[1, p, (p / 2).max(1), (p / 16).max(1), (p / 40).max(1)]);
+        periods.into_iter().map(|p| (p, cost(p))).collect()
+    }
+
+    fn at_limits(&mut self) -> Draft {
+        let word = *self.random.pick(&WORDS);
+        let n = *self.random.pick(&[1, 2, 16]);
+        let tasks = if word == "supply" { Vec::new() } else { self.limit_tasks(n) };
+        let p = *self.random.pick(&[1, 2, 1000, 1999, 2000]);
+        let b = *self.random.pick(&[1, (p / 2).max(1), (p - 1).max(1), p]);
+        let t = *self.random.pick(&[0, 1, 2, 1998, 1999, 2000]);
+        let lead = match word {
+            "supply" => vec![p, b, t],
+            "demand" => vec![*self.random.pick(&[1, n]), t],
+            "check" => vec![p, b],
+            _ => vec![p],
+        };
+        Draft { word, lead, tasks }
+    }
+
+    /// One to three numbers out of range, or a list of the wrong size.
+    fn refused(&mut self) -> Draft {
+        let mut draft = if self.random.once_in(4) { self.at_limits() } else { self.small() };
+        for _ in 0..self.random.between(1, 3) {
+            if draft.word == "supply" || self.random.once_in(3) {
+                self.spoil_lead(&mut draft);
+            } else {
+                self.spoil_tasks(&mut draft);
+            }
+        }
+        draft
+    }
+
+    fn spoil_lead(&mut self, draft: &mut Draft) {
+        let above = match draft.word {
+            "demand" => draft.tasks.len() as u64 + 1,
+            _ => draft.lead[0] + 1,
+        };
+        let place = self.random.index(draft.lead.len());
+        draft.lead[place] = *self.random.pick(&[0, above, 2001, 2000, 65537, 1 << 32, u64::MAX]);
+    }
+
+    fn spoil_tasks(&mut self, draft: &mut Draft) {
+        let how = self.random.below(8);
+        if how == 0 || draft.tasks.is_empty() {
+            draft.tasks.clear();
+            return;
+        }
+        let place = self.random.index(draft.tasks.len());
+        let (period, cost) = draft.tasks[place];
+        draft.tasks[place] = match how {
+            1 => (0, cost),
+            2 => (2001, cost),
+            3 => (period, 0),
+            4 => (period, period + 1),
+            5 => (period + 1, cost),
+            _ => (period, cost),
+        };
+        if how == 6 {
+            draft.tasks.reverse();
+        }
+        if how == 7 {
+            let last = draft.tasks[draft.tasks.len() - 1];
+            let n = self.random.between(15, 18) as usize;
+            draft.tasks.resize(n, last);
+        }
+    }
+
+    /// Leading zeros, and numbers that a narrow type would take for small ones.
+    fn odd_numbers(&mut self) -> Text {
+        let mut text = self.small().text();
+        let place = self.random.index(text.fields.len());
+        let field = &mut text.fields[place];
+        let small: u128 = String::from_utf8_lossy(field).parse().unwrap();
+        *field = match self.random.below(6) {
+            0 => format!("0{small}").into_bytes(),
+            1 => format!("{}{small}", "0".repeat(40)).into_bytes(),
+            2 => ((1u128 << 32) + small).to_string().into_bytes(),
+            3 => ((1u128 << 64) + small).to_string().into_bytes(),
+            4 => format!("1{}{small}", "0".repeat(60)).into_bytes(),
+            _ => format!("{}{small}", "0".repeat(3000)).into_bytes(),
+        };
+        text
+    }
+
+    /// Fields that are missing, too many, empty or no number.
+    fn broken(&mut self) -> Text {
+        let mut text = if self.random.once_in(3) { self.refused().text() } else { self.small().text() };
+        for _ in 0..self.random.between(1, 2) {
+            self.break_field(&mut text);
+        }
+        text
+    }
+
+    fn break_field(&mut self, text: &mut Text) {
+        let count = text.fields.len();
+        let place = self.random.index(count + 1);
+        let bad = self.random.pick(&NO_NUMBERS).to_vec();
+        match self.random.below(6) {
+            0 => text.fields.truncate(place),
+            1 => text.fields.truncate(count.min(2)),
+            2 => text.fields.push(bad),
+            3 => text.fields.push(b"1".to_vec()),
+            4 => text.fields.insert(place, bad),
+            _ if place < count => text.fields[place] = bad,
+            _ => text.fields.push(Vec::new()),
+        }
+    }
+
+    fn long_list(&mut self) -> Text {
+        let mut text = self.small().text();
+        let n = *self.random.pick(&[36, 40, 300, 5000]);
+        text.fields.resize(n, b"7".to_vec());
+        if self.random.once_in(2) {
+            let (low, high) = *self.random.pick(&[(3, 33), (30, n as u64 - 1)]);
+            let place = self.random.between(low, high) as usize;
+            text.fields[place] = self.random.pick(&NO_NUMBERS).to_vec();
+        }
+        text
+    }
+
+    fn no_word(&mut self) -> Text {
+        let mut text = self.small().text();
+        text.word = self.random.pick(&NO_WORDS).to_vec();
+        if self.random.once_in(3) {
+            text.fields.clear();
+        }
+        text
+    }
+}

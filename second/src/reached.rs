@@ -1,0 +1,36 @@
+//! Counts which cases a comparison has met.
+
+use std::collections::BTreeMap;
+
+#[derive(Default)]
+pub struct Reached {
+    counts: BTreeMap<String, u64>,
+}
+
+impl Reached {
+    pub fn add(&mut self, case: impl Into<String>) {
+        *self.counts.entry(case.into()).or_insert(0) += 1;
+    }
+
+    pub fn add_if(&mut self, met: bool, case: &str) {
+        if met {
+            self.add(case);
+        }
+    }
+
+    pub fn count(&self, case: &str) -> u64 {
+        self.counts.get(case).copied().unwrap_or(0)
+    }
+
+    /// Each case asked for and how often it was met.
+    pub fn list(&self, asked: &[String]) {
+        for case in asked {
+            println!("{:>9} {case}", self.count(case));
+        }
+    }
+
+    /// The cases asked for that were not met.
+    pub fn missing(&self, asked: &[String]) -> Vec<String> {
+        asked.iter().filter(|case| self.count(case) == 0).cloned().collect()
+    }
+}

@@ -1,0 +1,337 @@
+//! `sizing`: queries one a line, answers one a line. A line is taken byte by byte,
+//! so that one of any length needs no more memory than a short one.
+
+use crate::refusal::Refusal;
+use crate::shares::{self, Tasks, MOST_TASKS};
+use std::io::{self, Read, Write};
+
+/// Two leading numbers and one task more than are allowed.
+const KEPT_FIELDS: usize = 2 + 2 * (MOST_TASKS + 1);
+/// The longest word has six bytes; a seventh shows that it is none.
+const KEPT_WORD: usize = 7;
+
+#[derive(Clone, PartialEq, Eq, Debug)]
+pub enum Answer {
+    Numbers(Vec<u64>),
+    No(Refusal),
+    BadWord,
+    BadField(u64),
+}
+
+impl Answer {
+    pub fn line(&self) -> String {
+        match self {
+            Answer::Numbers(numbers) => {
+                let words: Vec<String> = numbers.iter().map(u64::to_string).collect();
+                format!("ok {}", words.join(" "))
+            }
+            Answer::No(refusal) => format!("no {} {}", refusal.number, refusal.detail),
+            Answer::BadWord => "bad word".to_string(),
+            Answer::BadField(place) => format!("bad field {place}"),
+        }
+    }
+}
+
+#[derive(Clone, Copy, PartialEq, Eq)]
+enum Word {
+    Supply,
+    Demand,
+    Check,
+    Least,
+    Best,
+}
+
+impl Word {
+    fn from(bytes: &[u8]) -> Option<Word> {
+        match bytes {
+            b"supply" => Some(Word::Supply),
+            b"demand" => Some(Word::Demand),
+            b"check" => Some(Word::Check),
+            b"least" => Some(Word::Least),
+            b"best" => Some(Word::Best),
+            _ => None,
+        }
+    }
+
+    /// The numbers that stand before the tasks.
+    fn leading(self) -> u64 {
+        match self {
+            Word::Supply => 3,
+            Word::Demand | Word::Check => 2,
+            Word::Least | Word::Best => 1,
+        }
+    }
+}
+
+/// A field as far as it has been read. A number too large stays at the largest
+/// u64, which is out of every range.
+#[derive(Clone, Copy)]
+struct Field {
+    value: u64,
+    empty: bool,
+    digits: bool,
+}
+
+impl Field {
+    fn new() -> Field {
+        Field { value: 0, empty: true, digits: true }
+    }
+
+    fn take(&mut self, byte: u8) {
+        self.empty = false;
+        if byte.is_ascii_digit() {
+            let digit = u64::from(byte - b'0');
+            self.value = self.value.saturating_mul(10).saturating_add(digit);
+        } else {
+            self.digits = false;
+        }
+    }
+}
+
+/// A line as far as it has been read.
+struct Line {
+    length: u64,
+    word: Vec<u8>,
+    open: Option<Field>,
+    numbers: Vec<u64>,
+    fields: u64,
+    no_number: Option<u64>,
+}
+
+impl Line {
+    fn new() -> Line {
+        Line { length: 0, word: Vec::new(), open: None, numbers: Vec::new(), fields: 0, no_number: None }
+    }
+
+    fn take(&mut self, byte: u8) {
+        self.length += 1;
+        if byte == b' ' {
+            self.close_field();
+            self.open = Some(Field::new());
+        } else if let Some(field) = &mut self.open {
+            field.take(byte);
+        } else if self.word.len() < KEPT_WORD {
+            self.word.push(byte);
+        }
+    }
+
+    fn close_field(&mut self) {
+        let Some(field) = self.open.take() else { return };
+        self.fields += 1;
+        if (field.empty || !field.digits) && self.no_number.is_none() {
+            self.no_number = Some(self.fields);
+        }
+        if self.numbers.len() < KEPT_FIELDS {
+            self.numbers.push(field.value);
+        }
+    }
+
+    /// The first field that is missing, too many or no number.
+    fn bad_field(&self, word: Word) -> Option<u64> {
+        let missing = (self.fields < word.leading()).then_some(self.fields + 1);
+        let extra = (word == Word::Supply && self.fields > 3).then_some(4);
+        [self.no_number, missing, extra].into_iter().flatten().min()
+    }
+
+    /// The answer to the whole line; an empty one has none.
+    fn answer(mut self) -> Option<Answer> {
+        if self.length == 0 {
+            return None;
+        }
+        self.close_field();
+        let Some(word) = Word::from(&self.word) else {
+            return Some(Answer::BadWord);
+        };
+        if let Some(place) = self.bad_field(word) {
+            return Some(Answer::BadField(place));
+        }
+        Some(ask(word, &self.numbers))
+    }
+}
+
+fn ask(word: Word, numbers: &[u64]) -> Answer {
+    let (lead, list) = numbers.split_at(word.leading() as usize);
+    let periods: Vec<u64> = list.iter().step_by(2).copied().collect();
+    let costs: Vec<u64> = list.iter().skip(1).step_by(2).copied().collect();
+    let tasks = Tasks { periods: &periods, costs: &costs };
+    let result = match word {
+        Word::Supply => shares::supply(lead[0], lead[1], lead[2]).map(|n| vec![n]),
+        Word::Demand => shares::demand(tasks, lead[0], lead[1]).map(|n| vec![n]),
+        Word::Check => shares::check(tasks, lead[0], lead[1]).map(|met| vec![u64::from(met)]),
+        Word::Least => shares::least(tasks, lead[0]).map(|b| vec![b]),
+        Word::Best => shares::best(tasks, lead[0]).map(|i| vec![i.period, i.budget]),
+    };
+    match result {
+        Ok(numbers) => Answer::Numbers(numbers),
+        Err(refusal) => Answer::No(refusal),
+    }
+}
+
+/// Takes bytes and gives the answers of the lines that end with them.
+pub struct Reader {
+    line: Line,
+    carriage: bool,
+}
+
+impl Reader {
+    pub fn new() -> Reader {
+        Reader { line: Line::new(), carriage: false }
+    }
+
+    pub fn take(&mut self, byte: u8) -> Option<Answer> {
+        if byte == b'\n' {
+            self.carriage = false;
+            return std::mem::replace(&mut self.line, Line::new()).answer();
+        }
+        self.keep_carriage();
+        if byte == b'\r' {
+            self.carriage = true;
+        } else {
+            self.line.take(byte);
+        }
+        None
+    }
+
+    /// A carriage return that the line's end does not follow is a byte of the line.
+    fn keep_carriage(&mut self) {
+        if std::mem::replace(&mut self.carriage, false) {
+            self.line.take(b'\r');
+        }
+    }
+
+    /// The answer of a last line without a newline. The end of input ends it as a newline
+    /// would, so a carriage return before it is dropped too.
+    pub fn end(self) -> Option<Answer> {
+        self.line.answer()
+    }
+}
+
+/// The answers to a whole input.
+pub fn answers(input: &[u8]) -> Vec<Answer> {
+    let mut reader = Reader::new();
+    let mut answers: Vec<Answer> = input.iter().filter_map(|&byte| reader.take(byte)).collect();
+    answers.extend(reader.end());
+    answers
+}
+
+pub fn run(mut input: impl Read, mut output: impl Write) -> io::Result<()> {
+    let mut reader = Reader::new();
+    let mut buffer = [0; 4096];
+    loop {
+        let count = input.read(&mut buffer)?;
+        if count == 0 {
+            break;
+        }
+        for &byte in &buffer[..count] {
+            if let Some(answer) = reader.take(byte) {
+                writeln!(output, "{}", answer.line())?;
+            }
+        }
+        output.flush()?;
+    }
+    if let Some(answer) = reader.end() {
+        writeln!(output, "{}", answer.line())?;
+    }
+    output.flush()
+}
+
+#[cfg(test)]
+mod tests {
+    use super::*;
+
+    fn lines(input: &[u8]) -> Vec<String> {
+        answers(input).iter().map(Answer::line).collect()
+    }
+
+    fn one(query: &str) -> String {
+        let mut all = lines(query.as_bytes());
+        assert_eq!(all.len(), 1);
+        all.pop().unwrap()
+    }
+
+    #[test]
+    fn p1_to_p12_as_queries() {
+        let asked = [
+            ("supply 4 3 2", "ok 0"),
+            ("supply 4 3 5", "ok 3"),
+            ("supply 4 3 7", "ok 4"),
+            ("supply 5 5 9", "ok 9"),
+            ("demand 2 5 5 1 10 3", "ok 4"),
+            ("demand 2 6 5 1 10 3", "ok 5"),
+            ("least 5 5 1 10 3", "ok 4"),
+            ("check 3 2 5 1 10 3", "ok 1"),
+            ("check 4 2 5 1 10 3", "ok 0"),
+            ("best 5 5 1 10 3", "ok 3 2"),
+            ("least 1 2 2 4 1", "no 34 0"),
+            ("least 5 2 2 4 1", "no 34 0"),
+            ("least 2000 2 2 4 1", "no 34 0"),
+            ("best 3 1 1", "ok 3 3"),
+        ];
+        for (query, answer) in asked {
+            assert_eq!(one(query), answer, "{query}");
+        }
+    }
+
+    #[test]
+    fn bad_words_and_fields() {
+        let asked = [
+            ("supply", "bad field 1"),
+            ("supply ", "bad field 1"),
+            ("supply 1 2", "bad field 3"),
+            ("supply 1 2 3 4", "bad field 4"),
+            ("supply 1 2 3 ", "bad field 4"),
+            ("supply 1 x 3 4", "bad field 2"),
+            ("supply 1  2 3", "bad field 2"),
+            ("check 3", "bad field 2"),
+            ("check 3 2", "no 30 0"),
+            ("check 3 2 ", "bad field 3"),
+            ("best", "bad field 1"),
+            ("least 0 5 1 10 -3", "bad field 5"),
+            (" supply 1 1 1", "bad word"),
+            ("Supply 1 1 1", "bad word"),
+            ("supplyy 1 1 1", "bad word"),
+            ("\tbest", "bad word"),
+        ];
+        for (query, answer) in asked {
+            assert_eq!(one(query), answer, "{query}");
+        }
+    }
+
+    #[test]
+    fn numbers_too_large_and_leading_zeros() {
+        let asked = [
+            ("supply 004 03 7", "ok 4"),
+            ("supply 4294967300 3 7", "no 33 0"),
+            ("supply 18446744073709551620 3 7", "no 33 0"),
+            ("supply 4 3 18446744073709551623", "no 35 0"),
+            ("demand 18446744073709551618 5 5 1 10 3", "no 35 0"),
+            ("least 5 5 1 10 99999999999999999999999", "no 31 0"),
+        ];
+        for (query, answer) in asked {
+            assert_eq!(one(query), answer, "{query}");
+        }
+        let long = format!("supply {}4 3 7", "0".repeat(100_000));
+        assert_eq!(one(&long), "ok 4");
+    }
+
+    #[test]
+    fn row_30_by_count_of_fields() {
+        assert_eq!(one("least 5 5 1 10"), "no 30 0");
+        assert_eq!(one(&format!("least 5{}", " 5 1".repeat(16))), "no 34 0");
+        assert_eq!(one(&format!("least 5{}", " 9 9".repeat(17))), "no 30 0");
+        assert_eq!(one(&format!("check 5 1{} 5", " 5 1".repeat(16))), "no 30 0");
+        assert_eq!(one(&format!("best 5{}", " 5 1".repeat(5000))), "no 30 0");
+        assert_eq!(one(&format!("best 5{} x", " 5 1".repeat(5000))), "bad field 10002");
+    }
+
+    #[test]
+    fn line_ends() {
+        assert_eq!(lines(b""), Vec::<String>::new());
+        assert_eq!(lines(b"\n\r\n\n"), Vec::<String>::new());
+        assert_eq!(lines(b"supply 1 1 1\r\nsupply 1 1 2"), ["ok 1", "ok 2"]);
+        assert_eq!(lines(b"supply 1 1 1\r\r\n"), ["bad field 3"]);
+        assert_eq!(lines(b"\r\r\n"), ["bad word"]);
+        assert_eq!(lines(b"supply 1 1\r 1\n"), ["bad field 2"]);
+        assert_eq!(lines(b"supply 1 1 1\r"), ["ok 1"]);
+    }
+}
