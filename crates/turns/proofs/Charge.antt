@@ -1,0 +1,188 @@
+-- The charge of a written record is the written charge. Assumes nothing.
+use Prim.Native.Nat.{ℕ, suc, _+_, _-_, _≤_, _<_}
+use mathlib.Core.Path.{_≡_, refl, ap, sym, _∙_}
+use mathlib.Core.Bool.{Bool, true, false, cond, not, _&&_}
+use mathlib.Core.List.{List, [], _∷_, _++_}
+use native.Mathlib.Omega.{arith}
+use lib.Dec.{leb, ltb, eqb}
+use lib.ListN.{length, getD, set, length-append}
+use lib.Seq.{set-getD}
+use borrow.Author.Tests.{eqb-true, eqb-false, eq-eqb, ne-eqb, lt-ltb, leb-true, leb-false}
+use Rattle.units.specs.Units.{moment, amount, later}
+use Rattle.units.specs.declared.Moment.{Moment}
+use Rattle.units.specs.declared.Amount.{Amount}
+use Rattle.rules.specs.Vcpu.{Entry}
+use Rattle.rules.specs.Vcpu.{Vcpu as Tenant}
+use Rattle.rules.specs.Charge.{toLast, waiting, joins, posted, charged}
+use Rattle.rules.proofs.Tests.{clash, and-true}
+use Rattle.turns.specs.declared.Vcpu.{Vcpu}
+use Rattle.turns.specs.Laid.{laid}
+use Rattle.turns.specs.State.{never, dueOf, amountOf, written}
+use Rattle.turns.specs.Steps.{queueAs, usedAs, joinsOf, joinedOf, foldedOf, appendedOf, postedOf, chargedOf}
+use Rattle.turns.proofs.Laid.{laid-get, laid-set, laid-end}
+
+abbrev pub noEntry : Entry
+noEntry = record { due = 0; amount = 0 }
+
+pub last-set : (f : Entry → Entry) (q : List Entry) → 0 < length q → toLast f q ≡ set q (length q - 1) (f (getD q (length q - 1) noEntry))
+last-set f [] h = absurd (omega arith)
+last-set f (e ∷ []) h = refl
+last-set f (e ∷ g ∷ q) h =
+    let n : length (e ∷ g ∷ q) - 1 ≡ suc (length (g ∷ q) - 1) = omega arith in
+    rw n (ap (λ (r : List Entry). e ∷ r) (last-set f (g ∷ q) (omega arith)))
+
+pub last-length : (f : Entry → Entry) (q : List Entry) → length (toLast f q) ≡ length q
+last-length f [] = refl
+last-length f (e ∷ []) = refl
+last-length f (e ∷ g ∷ q) = ap suc (last-length f (g ∷ q))
+
+-- the two arrays of a queue whose last entry was changed
+module _ (f : Entry → Entry) (q : List Entry) (h : 0 < length q) (g : length q ≤ 8) where
+  laid-last : {B : Type 0} (h′ : Entry → B) (z : B) → laid 8 h′ z (toLast f q) ≡ set (laid 8 h′ z q) (length q - 1) (h′ (f (getD q (length q - 1) noEntry)))
+  laid-last h′ z = ap (laid 8 h′ z) (last-set f q h) ∙ sym (laid-set h′ z 8 q (length q - 1) (f (getD q (length q - 1) noEntry)) (omega arith) g)
+
+  last-ticks : (getD (laid 8 amountOf (amount 0) q) (length q - 1) (amount 0)) .0 ≡ (getD q (length q - 1) noEntry) .amount
+  last-ticks = ap (λ (a : Amount). a .0) (laid-get amountOf (amount 0) 8 q (length q - 1) noEntry (amount 0) (omega arith) g)
+
+  last-due : moment ((getD q (length q - 1) noEntry) .due) ≡ getD (laid 8 dueOf (moment never) q) (length q - 1) (moment 0)
+  last-due = sym (laid-get dueOf (moment never) 8 q (length q - 1) noEntry (moment 0) (omega arith) g)
+
+joins-same : (last : ℕ) (v : Tenant) → joinsOf (written v) (moment last) ≡ joins last v
+unfolding written
+joins-same last v = go (v .pending) (eqb (v .ended) last)
+  where
+    go : (q : List Entry) (b : Bool) → ltb 0 (length q) && b ≡ b && waiting q
+    go [] true = refl
+    go [] false = refl
+    go (e ∷ q) true = rw (lt-ltb 0 (suc (length q)) (omega arith))
+    go (e ∷ q) false = rw (lt-ltb 0 (suc (length q)) (omega arith))
+
+pub waits-some : (q : List Entry) → waiting q ≡ true → 0 < length q
+waits-some [] e = clash (sym e)
+waits-some (x ∷ q) e = omega arith
+
+-- the record whose queue is q
+abbrev withQueue : Tenant → List Entry → Vcpu
+withQueue v q = queueAs (written v) (laid 8 dueOf (moment never) q) (laid 8 amountOf (amount 0) q) (length q)
+
+same-queue : (v : Tenant) (ds ds′ : List Moment) (bs bs′ : List Amount) (n n′ : ℕ) → ds ≡ ds′ → bs ≡ bs′ → n ≡ n′
+    → queueAs (written v) ds bs n ≡ queueAs (written v) ds′ bs′ n′
+same-queue v ds ds′ bs bs′ n n′ p q r = rw (p, q, r)
+
+module _ (last d : ℕ) (v : Tenant) (few : length (v .pending) ≤ 8) (fits : last + v .terms .period ≤ never) where
+  due-fits : later (moment last) (amount (v .terms .period)) ≡ moment (last + v .terms .period)
+  due-fits = ap moment (omega arith)
+
+  joined-same : 0 < length (v .pending) → joinedOf (written v) (amount d) ≡ withQueue v (toLast (λ e. record { due = e .due; amount = e .amount + d }) (v .pending))
+  unfolding written
+  joined-same h =
+      same-queue v (laid 8 dueOf (moment never) q) (laid 8 dueOf (moment never) (toLast f q))
+      (set (laid 8 amountOf (amount 0) q) n (amount ((getD (laid 8 amountOf (amount 0) q) n (amount 0)) .0 + d))) (laid 8 amountOf (amount 0) (toLast f q))
+      (length q) (length (toLast f q))
+      (sym (laid-last f q h few dueOf (moment never) ∙ ap (set (laid 8 dueOf (moment never) q) n) (last-due f q h few) ∙ set-getD (laid 8 dueOf (moment never) q) n (moment 0)))
+      (ap (λ (m : ℕ). set (laid 8 amountOf (amount 0) q) n (amount (m + d))) (last-ticks f q h few) ∙ sym (laid-last f q h few amountOf (amount 0)))
+      (sym (last-length f q))
+    where
+      q : List Entry
+      q = v .pending
+
+      n : ℕ
+      n = length q - 1
+
+      f : Entry → Entry
+      f e = record { due = e .due; amount = e .amount + d }
+
+  folded-same : 0 < length (v .pending)
+      → foldedOf (written v) (amount d) (later (moment last) (amount (v .terms .period)))
+      ≡ withQueue v (toLast (λ e. record { due = last + v .terms .period; amount = e .amount + d }) (v .pending))
+  unfolding written
+  folded-same h =
+      same-queue v (set (laid 8 dueOf (moment never) q) n (later (moment last) (amount (v .terms .period)))) (laid 8 dueOf (moment never) (toLast f q))
+      (set (laid 8 amountOf (amount 0) q) n (amount ((getD (laid 8 amountOf (amount 0) q) n (amount 0)) .0 + d))) (laid 8 amountOf (amount 0) (toLast f q))
+      (length q) (length (toLast f q))
+      (ap (set (laid 8 dueOf (moment never) q) n) due-fits ∙ sym (laid-last f q h few dueOf (moment never)))
+      (ap (λ (m : ℕ). set (laid 8 amountOf (amount 0) q) n (amount (m + d))) (last-ticks f q h few) ∙ sym (laid-last f q h few amountOf (amount 0)))
+      (sym (last-length f q))
+    where
+      q : List Entry
+      q = v .pending
+
+      n : ℕ
+      n = length q - 1
+
+      f : Entry → Entry
+      f e = record { due = last + v .terms .period; amount = e .amount + d }
+
+  appended-same : length (v .pending) < 8
+      → appendedOf (written v) (amount d) (later (moment last) (amount (v .terms .period)))
+      ≡ withQueue v (v .pending ++ record { due = last + v .terms .period; amount = d } ∷ [])
+  unfolding written
+  appended-same h =
+      same-queue v (set (laid 8 dueOf (moment never) q) (length q) (later (moment last) (amount (v .terms .period)))) (laid 8 dueOf (moment never) (q ++ e ∷ []))
+      (set (laid 8 amountOf (amount 0) q) (length q) (amount d)) (laid 8 amountOf (amount 0) (q ++ e ∷ []))
+      (length q + 1) (length (q ++ e ∷ []))
+      (ap (set (laid 8 dueOf (moment never) q) (length q)) due-fits ∙ laid-end dueOf (moment never) 8 q e h)
+      (laid-end amountOf (amount 0) 8 q e h)
+      (sym (length-append q (e ∷ [])))
+    where
+      q : List Entry
+      q = v .pending
+
+      e : Entry
+      e = record { due = last + v .terms .period; amount = d }
+
+  count-written : (written v) .count ≡ length (v .pending)
+  unfolding written
+  count-written = refl
+
+  period-written : (written v) .period ≡ amount (v .terms .period)
+  unfolding written
+  period-written = refl
+
+  posted-same : postedOf (written v) (amount d) (moment last) ≡ withQueue v (posted last d v)
+  unfolding postedOf posted written
+  posted-same = go (joins last v) refl
+    where
+      q : List Entry
+      q = v .pending
+
+      due : Moment
+      due = later (moment last) (amount (v .terms .period))
+
+      full : (b : Bool) → leb 8 (length (v .pending)) ≡ b
+          → cond (eqb (length (v .pending)) 8) (foldedOf (written v) (amount d) due) (appendedOf (written v) (amount d) due)
+          ≡ withQueue v (cond b (toLast (λ e. record { due = last + v .terms .period; amount = e .amount + d }) (v .pending))
+          (v .pending ++ record { due = last + v .terms .period; amount = d } ∷ []))
+      full true e = let h : 8 ≤ length (v .pending) = leb-true 8 (length (v .pending)) e in rw (eq-eqb (length (v .pending)) 8 (omega arith)) (folded-same (omega arith))
+      full false e = let h : length (v .pending) < 8 = leb-false 8 (length (v .pending)) e in rw (ne-eqb (length (v .pending)) 8 (omega arith)) (appended-same h)
+
+      go : (b : Bool) → joins last v ≡ b
+          → cond (joinsOf (written v) (moment last)) (joinedOf (written v) (amount d))
+          (cond (eqb ((written v) .count) 8) (foldedOf (written v) (amount d) (later (moment last) ((written v) .period)))
+          (appendedOf (written v) (amount d) (later (moment last) ((written v) .period))))
+          ≡ withQueue v
+          (cond b (toLast (λ e. record { due = e .due; amount = e .amount + d }) (v .pending))
+          (cond (not b && leb 8 (length (v .pending))) (toLast (λ e. record { due = last + v .terms .period; amount = e .amount + d }) (v .pending))
+          (v .pending ++ record { due = last + v .terms .period; amount = d } ∷ [])))
+      go true e = rw (joins-same last v ∙ e) (joined-same (waits-some (v .pending) (and-true (eqb (v .ended) last) (waiting (v .pending)) e .1)))
+      go false e = rw (joins-same last v ∙ e, count-written, period-written) (full (leb 8 (length (v .pending))) refl)
+
+  usable-same : (now : ℕ) → usedAs (withQueue v (posted last d v)) (amount (v .usable - d)) (moment now)
+      ≡ written (record { terms = v .terms; runnable = v .runnable; usable = v .usable - d; ended = now; pending = posted last d v })
+  unfolding written
+  usable-same now = refl
+
+  usable-is : (written v) .usable .0 ≡ v .usable
+  unfolding written
+  usable-is = refl
+
+  pub charged-same : (now : ℕ) → last ≤ now → d ≡ now - last → chargedOf (written v) (moment last) (moment now) ≡ written (charged last now v)
+  unfolding chargedOf charged postedOf written
+  charged-same now h e = go (eqb last now) refl
+    where
+      go : (b : Bool) → eqb last now ≡ b
+          → cond b (written v) (usedAs (postedOf (written v) (amount (now - last)) (moment last)) (amount ((written v) .usable .0 - (now - last))) (moment now))
+          ≡ written (cond (eqb (now - last) 0) v (record { terms = v .terms; runnable = v .runnable; usable = v .usable - (now - last); ended = now; pending = posted last (now - last) v }))
+      go true g = let k : last ≡ now = eqb-true last now g in rw (eq-eqb (now - last) 0 (omega arith))
+      go false g =
+          rw (ne-eqb (now - last) 0 (λ z. eqb-false last now g (omega arith)), usable-is, sym e, posted-same) (usable-same now)

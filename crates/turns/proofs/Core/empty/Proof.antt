@@ -1,0 +1,28 @@
+-- `turns::Core::empty` meets its contract: the empty card written, and valid.
+-- Assumes nothing.
+use Rattle.turns.proofs.Settle.{with-valid}
+use Rattle.turns.specs.Laid.{laid}
+use Rattle.turns.specs.State.{coreOf}
+use borrow.Author.Needs.{needs}
+use Rattle.turns.proofs.Core.empty.Statement.{statement}
+use Rattle.turns.proofs.Core.empty.Tie as tie
+
+vacant-requires : tie.Need-vacant-requires
+vacant-requires c κs = search needs
+
+new-requires : tie.Need-new-requires
+new-requires c κs = search needs
+
+new-requires-2 : tie.Need-new-requires-2
+new-requires-2 c κs = search needs
+
+new-requires-3 : tie.Need-new-requires-3
+new-requires-3 c κs = search needs
+
+returns : tie.Need-returns
+unfolding coreOf laid
+returns c = with-valid _ (rw (c .new3 .ensures, c .before .new2 .ensures, c .before .before .new .ensures, c .before .before .before .vacant .ensures))
+
+pub empty-spec : {M : Type 1} → statement M
+empty-spec =
+    tie.close (tie.spec vacant-requires new-requires new-requires-2 new-requires-3 returns)

@@ -1,0 +1,94 @@
+-- A list laid into an array: reading and writing a place, one more at the end, one put in, one taken out, and the front.
+-- Assumes nothing.
+use Prim.Native.Nat.{ℕ, zero, suc, _≤_, _<_}
+use mathlib.Core.Path.{_≡_, refl, ap, sym}
+use mathlib.Core.List.{List, [], _∷_, _++_, map}
+use native.Mathlib.Omega.{arith}
+use lib.ListN.{length, take, getD, set}
+use Rattle.turns.specs.Laid.{laid}
+use Rattle.turns.specs.Table.{inserted, removed}
+
+module _ {A : Type 0} where
+  -- put in at a place, and taken out of one
+  abbrev pub putAt : ℕ → A → List A → List A
+  putAt zero a l = a ∷ l
+  putAt (suc i) a [] = a ∷ []
+  putAt (suc i) a (x ∷ l) = x ∷ putAt i a l
+
+  abbrev pub cutAt : ℕ → List A → List A
+  cutAt i [] = []
+  cutAt zero (x ∷ l) = l
+  cutAt (suc i) (x ∷ l) = x ∷ cutAt i l
+
+module _ {A B : Type 0} (f : A → B) (z : B) where
+  pub laid-length : (k : ℕ) (l : List A) → length (laid k f z l) ≡ k
+  unfolding laid
+  laid-length zero l = refl
+  laid-length (suc k) [] = ap suc (laid-length k [])
+  laid-length (suc k) (a ∷ l) = ap suc (laid-length k l)
+
+  pub laid-get : (k : ℕ) (l : List A) (i : ℕ) (a : A) (b : B) → i < length l → length l ≤ k → getD (laid k f z l) i b ≡ f (getD l i a)
+  unfolding laid
+  laid-get k [] i a b h g = absurd (omega arith)
+  laid-get zero (x ∷ l) i a b h g = absurd (omega arith)
+  laid-get (suc k) (x ∷ l) zero a b h g = refl
+  laid-get (suc k) (x ∷ l) (suc i) a b h g = laid-get k l i a b (omega arith) (omega arith)
+
+  pub laid-out : (k : ℕ) (l : List A) (i : ℕ) (b : B) → i < k → length l ≤ i → getD (laid k f z l) i b ≡ z
+  unfolding laid
+  laid-out zero l i b h g = absurd (omega arith)
+  laid-out (suc k) [] zero b h g = refl
+  laid-out (suc k) [] (suc i) b h g = laid-out k [] i b (omega arith) (omega arith)
+  laid-out (suc k) (x ∷ l) zero b h g = absurd (omega arith)
+  laid-out (suc k) (x ∷ l) (suc i) b h g = laid-out k l i b (omega arith) (omega arith)
+
+  pub laid-set : (k : ℕ) (l : List A) (i : ℕ) (a : A) → i < length l → length l ≤ k → set (laid k f z l) i (f a) ≡ laid k f z (set l i a)
+  unfolding laid
+  laid-set k [] i a h g = absurd (omega arith)
+  laid-set zero (x ∷ l) i a h g = absurd (omega arith)
+  laid-set (suc k) (x ∷ l) zero a h g = refl
+  laid-set (suc k) (x ∷ l) (suc i) a h g = ap (λ (r : List B). f x ∷ r) (laid-set k l i a (omega arith) (omega arith))
+
+  pub laid-end : (k : ℕ) (l : List A) (a : A) → length l < k → set (laid k f z l) (length l) (f a) ≡ laid k f z (l ++ a ∷ [])
+  unfolding laid
+  laid-end zero l a h = absurd (omega arith)
+  laid-end (suc k) [] a h = refl
+  laid-end (suc k) (x ∷ l) a h = ap (λ (r : List B). f x ∷ r) (laid-end k l a (omega arith))
+
+  pub laid-more : (k : ℕ) (l : List A) → length l ≤ k → laid (suc k) f z l ≡ laid k f z l ++ z ∷ []
+  unfolding laid
+  laid-more zero [] h = refl
+  laid-more zero (x ∷ l) h = absurd (omega arith)
+  laid-more (suc k) [] h = ap (λ (r : List B). z ∷ r) (laid-more k [] (omega arith))
+  laid-more (suc k) (x ∷ l) h = ap (λ (r : List B). f x ∷ r) (laid-more k l (omega arith))
+
+  filled : (k : ℕ) → inserted 0 z (laid k f z []) ≡ laid k f z []
+  unfolding laid
+  filled zero = refl
+  filled (suc k) = ap (λ (r : List B). z ∷ r) (filled k)
+
+  pushed : (k : ℕ) (l : List A) (a : A) → length l < k → inserted 0 (f a) (laid k f z l) ≡ laid k f z (a ∷ l)
+  unfolding laid
+  pushed zero l a h = absurd (omega arith)
+  pushed (suc k) [] a h = ap (λ (r : List B). f a ∷ r) (filled k)
+  pushed (suc k) (x ∷ l) a h = ap (λ (r : List B). f a ∷ r) (pushed k l x (omega arith))
+
+  pub laid-put : (k : ℕ) (l : List A) (i : ℕ) (a : A) → i ≤ length l → length l < k → inserted i (f a) (laid k f z l) ≡ laid k f z (putAt i a l)
+  unfolding laid
+  laid-put k l zero a h g = pushed k l a g
+  laid-put k [] (suc i) a h g = absurd (omega arith)
+  laid-put zero (x ∷ l) (suc i) a h g = absurd (omega arith)
+  laid-put (suc k) (x ∷ l) (suc i) a h g = ap (λ (r : List B). f x ∷ r) (laid-put k l i a (omega arith) (omega arith))
+
+  pub laid-cut : (k : ℕ) (l : List A) (i : ℕ) → i < length l → length l ≤ k → removed i z (laid k f z l) ≡ laid k f z (cutAt i l)
+  unfolding laid
+  laid-cut k [] i h g = absurd (omega arith)
+  laid-cut zero (x ∷ l) i h g = absurd (omega arith)
+  laid-cut (suc k) (x ∷ l) zero h g = sym (laid-more k l (omega arith))
+  laid-cut (suc k) (x ∷ l) (suc i) h g = ap (λ (r : List B). f x ∷ r) (laid-cut k l i (omega arith) (omega arith))
+
+  pub laid-front : (k : ℕ) (l : List A) → length l ≤ k → take (length l) (laid k f z l) ≡ map f l
+  unfolding laid
+  laid-front k [] h = refl
+  laid-front zero (x ∷ l) h = absurd (omega arith)
+  laid-front (suc k) (x ∷ l) h = ap (λ (r : List B). f x ∷ r) (laid-front k l (omega arith))

@@ -1,0 +1,260 @@
+-- The end of an accepted call: what the scan found is written as the rules' card and said as the rules' report, and what is
+-- written is shown again. Assumes nothing.
+use Prim.Native.Nat.{ℕ, _+_, _≤_, _<_, min}
+use mathlib.Core.Path.{_≡_, refl, ap, sym, _∙_, subst}
+use mathlib.Core.Bool.{Bool, _&&_}
+use mathlib.Core.List.{List, [], _∷_, _++_, map}
+use mathlib.Core.Option.{Option, none, some}
+use native.Mathlib.Omega.{arith}
+use lib.ListN.{length, getD, take, drop, length-take, drop-of-length-le}
+use lib.Seq.{drop-cons, getD-take}
+use native.Mathlib.Numerals.{add-one}
+use borrow.Author.Tests.{lt-ltb, ne-eqb}
+use Rattle.units.specs.Units.{moment, amount, tunnel}
+use Rattle.units.specs.declared.Moment.{Moment}
+use Rattle.units.specs.declared.Tunnel.{Tunnel}
+use Rattle.rules.specs.Lists.{keep, All}
+use Rattle.rules.specs.Limits.{largestTime, largestPeriod}
+use Rattle.rules.specs.Vcpu.{Entry, moreUrgent}
+use Rattle.rules.specs.Vcpu.{Vcpu as Tenant}
+use Rattle.rules.specs.Card.{Card, empty}
+use Rattle.rules.specs.Choose.{ready, choose, runs, usableOf}
+use Rattle.rules.specs.Timer.{earlier, earliest, returns, timer}
+use Rattle.rules.specs.Turn.{settled, report, answered, turn, ok, afterReturn}
+use Rattle.rules.specs.Change.{change as changeRule}
+use Rattle.rules.specs.Refuse.{refusal}
+use Rattle.rules.specs.Refuse.{Refusal as Row}
+use Rattle.units.specs.declared.Amount.{Amount}
+use Rattle.turns.specs.declared.Answer.{Answer}
+use Rattle.turns.specs.declared.Change.{Change}
+use Rattle.turns.specs.declared.Holder.{Holder}
+use Rattle.turns.specs.declared.Timer.{Timer}
+use Rattle.turns.specs.declared.Refusal.{Refusal}
+use Rattle.turns.specs.declared.Reply.the-variants.{Done, No}
+use Rattle.rules.proofs.Tests.{no-some}
+use Rattle.turns.specs.declared.Vcpu.{Vcpu}
+use Rattle.turns.specs.declared.Core.{Core}
+use Rattle.turns.specs.declared.Pick.{Pick}
+use Rattle.turns.specs.declared.Holder.the-variants.{Vcpu as Held}
+use Rattle.turns.specs.State.{never, idle, nobody, tunnelOf, written, noTenant, card, coreOf, place, placeOf, timerOf, timerAt, runningAt, tenants, ValidTenant, ValidTenants, ValidCard, ValidCore}
+use Rattle.turns.specs.Steps.{picks, pickedOf, timerFor}
+use Rattle.turns.specs.Table.{holderOf}
+use Rattle.turns.specs.Calls.{holderSaid, timerSaid, asked, callOf, answerOf, turned}
+use Rattle.turns.proofs.Laid.{laid-get, laid-front}
+use Rattle.turns.proofs.State.{tenants-laid}
+use Rattle.turns.proofs.Valid.{all-weak, all-get, all-keep}
+use Rattle.turns.proofs.Choose.{Calm, idleWith, pickFor, scan}
+use Rattle.turns.proofs.Rows.{idsOf}
+use Rattle.turns.proofs.Stage.{placesOf, Filled, small, At, chosen-at}
+
+-- no time that the rules name reaches this one
+abbrev bound : ℕ
+bound = 2000000000000
+
+dues-below : (q : List Entry) (b : ℕ) → b ≤ bound → All (λ e. e .due ≤ b) q → All (λ t. t ≤ bound) (map (λ e. e .due) q)
+dues-below [] b l h = tt
+dues-below (e ∷ q) b l h = (omega (arith, h .0), dues-below q b l (h .1))
+
+both : (ss ts : List ℕ) → All (λ t. t ≤ bound) ss → All (λ t. t ≤ bound) ts → All (λ t. t ≤ bound) (ss ++ ts)
+both [] ts h g = g
+both (s ∷ ss) ts h g = (h .0, both ss ts (h .1) g)
+
+returns-below : (now : ℕ) (vs : List Tenant) → now ≤ largestTime → All (ValidTenant now) vs → All (λ t. t ≤ bound) (returns vs)
+returns-below now [] l h = tt
+returns-below now (v ∷ vs) l h =
+    both (map (λ e. e .due) (v .pending)) (returns vs)
+    (dues-below (v .pending) (now + v .terms .period) (omega (arith, h .0 .terms .period)) (h .0 .near)) (returns-below now vs l (h .1))
+
+early-below : (ts : List ℕ) (t : ℕ) → All (λ x. x ≤ bound) ts → earliest ts ≡ some t → t ≤ bound
+early-below [] t h e = no-some e
+early-below (x ∷ ts) t h e = go (earliest ts) e
+  where
+    go : (o : Option ℕ) → some (earlier x o) ≡ some t → t ≤ bound
+    go none f = let g : x ≡ t = cc in omega (arith, h .0)
+    go (some y) f = let g : min x y ≡ t = cc in omega (arith, h .0)
+
+pub calm : (now : ℕ) (vs : List Tenant) → now ≤ largestTime → All (ValidTenant now) vs → All Calm vs
+calm now vs l h = all-weak vs (λ v g. record { rising = g .rising; near = all-weak (v .pending) (λ e f. omega (arith, g .terms .period)) (g .near) }) h
+
+module _ (now : ℕ) (vs : List Tenant) (l : now ≤ largestTime) (r : ValidTenants now vs) where
+  -- the timer stays below the time above all
+  timer-below : (t : ℕ) → timer now vs (choose vs) ≡ some t → t < never
+  unfolding timer
+  timer-below t = go (choose vs) refl
+    where
+      go : (o : Option Tenant) → choose vs ≡ o → timer now vs o ≡ some t → t < never
+      go none e f =
+          let g : t ≤ bound = early-below (returns (keep (λ w. w .runnable) vs)) t (returns-below now (keep (λ w. w .runnable) vs) l (all-keep (ValidTenant now) (λ w. w .runnable) vs (r .each))) f in
+          omega arith
+      go (some v) e f =
+          let a : At v vs = chosen-at ready vs v (r .distinct) e in
+          let g : earlier (now + v .usable) (earliest (returns (keep (λ w. w .runnable && moreUrgent (w .terms) (v .terms)) vs))) ≡ t = cc in
+          omega (arith, most (now + v .usable) (earliest (returns (keep (λ w. w .runnable && moreUrgent (w .terms) (v .terms)) vs))), small-usable v a)
+        where
+          most : (a : ℕ) (o : Option ℕ) → earlier a o ≤ a
+          most a none = omega arith
+          most a (some b) = omega arith
+
+          small-usable : (v : Tenant) → At v vs → v .usable ≤ largestPeriod
+          small-usable v a =
+              let s : ValidTenant now v = subst (ValidTenant now) (a .is) (all-get (ValidTenant now) vs (place (v .terms .tunnel) vs) noTenant (r .each) (a .inside)) in
+              omega (arith, s .whole, s .terms .capacity, s .terms .period)
+
+  timer-back : timerAt (timerOf (timer now vs (choose vs))) ≡ timer now vs (choose vs)
+  timer-back = go (timer now vs (choose vs)) (λ t e. timer-below t e)
+    where
+      go : (o : Option ℕ) → ((t : ℕ) → o ≡ some t → t < never) → timerAt (timerOf o) ≡ o
+      go none h = refl
+      go (some t) h = rw (ne-eqb t never (λ e. (let g : t < never = h t refl in omega arith)))
+
+  running-back : runningAt (placeOf (runs (choose vs)) vs) (idsOf vs) ≡ runs (choose vs)
+  running-back = go (choose vs) refl
+    where
+      go : (o : Option Tenant) → choose vs ≡ o → runningAt (placeOf (runs o) vs) (idsOf vs) ≡ runs o
+      go none e = refl
+      go (some v) e =
+          let a : At v vs = chosen-at ready vs v (r .distinct) e in
+          rw (lt-ltb (place (v .terms .tunnel) vs) idle (omega (arith, a .inside, r .few)))
+          (ap (λ (x : Tunnel). some (x .0)) (laid-get tunnelOf (tunnel nobody) 32 vs (place (v .terms .tunnel) vs) noTenant (tunnel nobody) (a .inside) (r .few)) ∙ ap (λ (x : Tenant). some (x .terms .tunnel)) (a .is))
+
+  -- what is written is shown again
+  pub shown-again : card (coreOf (settled now vs)) ≡ settled now vs
+  unfolding card coreOf settled
+  shown-again =
+      same (runningAt (placeOf (runs (choose vs)) vs) (idsOf vs)) (timerAt (timerOf (timer now vs (choose vs)))) (tenants (length vs) (idsOf vs) (placesOf vs))
+      running-back timer-back (tenants-laid (tunnel nobody) (written noTenant) 32 vs (r .few) (small now vs r))
+    where
+      same : (a : Option ℕ) (b : Option ℕ) (c : List Tenant) → a ≡ runs (choose vs) → b ≡ timer now vs (choose vs) → c ≡ vs
+          → _≡_ {A = Card} (record { last = now; running = a; timer = b; vcpus = c }) (record { last = now; running = runs (choose vs); timer = timer now vs (choose vs); vcpus = vs })
+      same a b c p q s = rw (p, q, s)
+
+  pub settled-valid : ValidCard (settled now vs)
+  unfolding settled
+  settled-valid = record { time = l; tenants = r; settled = refl }
+
+  pub core-valid : ValidCore (coreOf (settled now vs))
+  core-valid = record { written = ap coreOf (sym shown-again); card = subst ValidCard (sym shown-again) settled-valid }
+
+  pub seat-found : (pickFor never 0 vs (choose vs)) .at ≡ placeOf (runs (choose vs)) vs
+  seat-found = go (choose vs)
+    where
+      go : (o : Option Tenant) → (pickFor never 0 vs o) .at ≡ placeOf (runs o) vs
+      go none = refl
+      go (some v) = omega arith
+
+  pub usable-found : (pickFor never 0 vs (choose vs)) .usable ≡ amount (usableOf (choose vs))
+  usable-found = go (choose vs)
+    where
+      go : (o : Option Tenant) → (pickFor never 0 vs o) .usable ≡ amount (usableOf o)
+      go none = refl
+      go (some v) = refl
+
+  usable-small : (v : Tenant) → At v vs → v .usable ≤ largestPeriod
+  usable-small v a =
+      let s : ValidTenant now v = subst (ValidTenant now) (a .is) (all-get (ValidTenant now) vs (place (v .terms .tunnel) vs) noTenant (r .each) (a .inside)) in
+      omega (arith, s .whole, s .terms .capacity, s .terms .period)
+
+  early-within : (test : Tenant → Bool) → timerOf (earliest (returns (keep test vs))) ≤ never
+  early-within test = go (earliest (returns (keep test vs))) refl
+    where
+      go : (o : Option ℕ) → earliest (returns (keep test vs)) ≡ o → timerOf o ≤ never
+      go none e = omega arith
+      go (some t) e = let g : t ≤ bound = early-below (returns (keep test vs)) t (returns-below now (keep test vs) l (all-keep (ValidTenant now) test vs (r .each))) e in omega arith
+
+  pub timer-found : timerFor (moment now) (pickFor never 0 vs (choose vs)) ≡ moment (timerOf (timer now vs (choose vs)))
+  unfolding timerFor timer
+  timer-found = go (choose vs) refl
+    where
+      go : (o : Option Tenant) → choose vs ≡ o → timerFor (moment now) (pickFor never 0 vs o) ≡ moment (timerOf (timer now vs o))
+      go none e = ap moment (omega (arith, early-within (λ w. w .runnable)))
+      go (some v) e =
+          let a : At v vs = chosen-at ready vs v (r .distinct) e in
+          rw (lt-ltb (0 + place (v .terms .tunnel) vs) idle (omega (arith, a .inside, r .few)))
+          (ap moment (omega (arith, early-within (λ w. w .runnable && moreUrgent (w .terms) (v .terms)), earlier-min (now + v .usable) (earliest (returns (keep (λ w. w .runnable && moreUrgent (w .terms) (v .terms)) vs))) (omega (arith, usable-small v a)), usable-small v a)))
+        where
+          earlier-min : (b : ℕ) (o : Option ℕ) → b ≤ never → earlier b o ≡ min b (timerOf o)
+          earlier-min b none h = omega arith
+          earlier-min b (some c) h = refl
+
+  pub holder-found : (z : Tunnel) → holderOf (idsOf vs) ((pickFor never 0 vs (choose vs)) .at) ≡ holderSaid (runs (choose vs))
+  holder-found z = ap (holderOf (idsOf vs)) seat-found ∙ go (choose vs) refl
+    where
+      go : (o : Option Tenant) → choose vs ≡ o → holderOf (idsOf vs) (placeOf (runs o) vs) ≡ holderSaid (runs o)
+      go none e = refl
+      go (some v) e =
+          let a : At v vs = chosen-at ready vs v (r .distinct) e in
+          rw (lt-ltb (place (v .terms .tunnel) vs) idle (omega (arith, a .inside, r .few)))
+          (ap Held (laid-get tunnelOf (tunnel nobody) 32 vs (place (v .terms .tunnel) vs) noTenant (tunnel 0) (a .inside) (r .few) ∙ ap tunnelOf (a .is)))
+
+  pub timer-said : timerAt ((timerFor (moment now) (pickFor never 0 vs (choose vs))) .0) ≡ timer now vs (choose vs)
+  timer-said = ap (λ (m : Moment). timerAt (m .0)) timer-found ∙ timer-back
+
+  module _ (p : List Vcpu) (ids : List Tunnel) (n : ℕ) (f : Filled p ids n vs) where
+    pub pick-found : picks (idleWith never) 0 (take n p) ≡ pickFor never 0 vs (choose vs)
+    pick-found =
+        ap (λ (q : List Vcpu). picks (idleWith never) 0 (take n q)) (f .places)
+        ∙ ap (λ (k : ℕ). picks (idleWith never) 0 (take k (placesOf vs))) (f .count)
+        ∙ ap (picks (idleWith never) 0) (laid-front written (written noTenant) 32 vs (r .few))
+        ∙ scan never 0 vs (omega arith) (omega (arith, r .few)) (calm now vs l (r .each)) (r .ranked) (r .distinct)
+
+    pub core-found : (k : Pick) → k ≡ pickFor never 0 vs (choose vs)
+        → _≡_ {A = Core} (record { places = p; last = moment now; ids = ids; timer = timerFor (moment now) k; running = k .at; n = n }) (coreOf (settled now vs))
+    unfolding coreOf settled
+    core-found k e =
+        same p ids (timerFor (moment now) k) (k .at) n (f .places) (f .tunnels) (ap (timerFor (moment now)) e ∙ timer-found) (ap (λ (x : Pick). x .at) e ∙ seat-found) (f .count)
+      where
+        same : (p : List Vcpu) (ids : List Tunnel) (t : Moment) (a m : ℕ) → p ≡ placesOf vs → ids ≡ idsOf vs → t ≡ moment (timerOf (timer now vs (choose vs))) → a ≡ placeOf (runs (choose vs)) vs → m ≡ length vs
+            → _≡_ {A = Core} (record { places = p; last = moment now; ids = ids; timer = t; running = a; n = m })
+            (record { places = placesOf vs; last = moment now; ids = idsOf vs; timer = moment (timerOf (timer now vs (choose vs))); running = placeOf (runs (choose vs)) vs; n = length vs })
+        same p ids t a m u v w x y = rw (u, v, w, x, y)
+
+-- one place more of the scan, and its end
+pub scan-step : (k : Pick) (j n : ℕ) (p : List Vcpu) (z : Vcpu) → j < n → n ≤ 32 → length p ≡ 32
+    → picks (pickedOf k j (getD p j z)) (j + 1) (drop (j + 1) (take n p)) ≡ picks k j (drop j (take n p))
+scan-step k j n p z h g l =
+    let i : j < length (take n p) = omega (arith, length-take n p) in
+    rw (add-one, drop-cons (take n p) j z i, getD-take n p j z h)
+
+pub scan-end : (k : Pick) (j n : ℕ) (p : List Vcpu) → j ≤ n → n ≤ j → picks k j (drop j (take n p)) ≡ k
+scan-end k j n p h g = let l : length (take n p) ≤ j = omega (arith, length-take n p) in ap (picks k j) (drop-of-length-le (take n p) l)
+
+-- the whole answer of an accepted call, and of a refused one
+pub turned-accepted : (c : Core) (now : Moment) (change : Change) → refusal (card c) (now .0) (asked change) ≡ none
+    → turned c now change
+    ≡ answerOf (record { reply = ok (report (settled (now .0) (changeRule (asked change) (afterReturn (card c) (now .0))))); card = settled (now .0) (changeRule (asked change) (afterReturn (card c) (now .0))) })
+unfolding turned turn
+turned-accepted c now change e = ap (λ (o : Option Row). answerOf (answered (card c) (callOf now change) o)) e
+
+pub turned-refused : (c : Core) (now : Moment) (change : Change) (x : Refusal) → ValidCore c → refusal (card c) (now .0) (asked change) ≡ some (record { number = x .number; detail = x .detail })
+    → record { core = c; reply = No x } ≡ turned c now change
+unfolding turned turn
+turned-refused c now change x r e =
+    ap (λ (d : Core). record { core = d; reply = No x }) (r .written)
+    ∙ ap (λ (o : Option Row). answerOf (answered (card c) (callOf now change) o)) (sym e)
+
+pub answer-found : (now : Moment) (vs : List Tenant) → now .0 ≤ largestTime → ValidTenants (now .0) vs
+    → (p : List Vcpu) (ids : List Tunnel) (n : ℕ) → Filled p ids n vs
+    → (k : Pick) → k ≡ pickFor never 0 vs (choose vs)
+    → (t : Moment) → t ≡ timerFor now k → (h : Holder) → h ≡ holderOf ids (k .at) → (s : Timer) → s ≡ timerSaid (timerAt (t .0))
+    → _≡_ {A = Answer}
+    (record { core = record { places = p; last = now; ids = ids; timer = t; running = k .at; n = n }; reply = Done (record { time = now; run = h; usable = k .usable; timer = s }) })
+    (answerOf (record { reply = ok (report (settled (now .0) vs)); card = settled (now .0) vs }))
+unfolding settled
+answer-found now vs l r p ids n f k e t te h he s se =
+    same (record { places = p; last = now; ids = ids; timer = t; running = k .at; n = n }) (coreOf (settled (now .0) vs)) h (holderSaid (runs (choose vs))) (k .usable) (amount (usableOf (choose vs))) s (timerSaid (timer (now .0) vs (choose vs)))
+    (ap (λ (x : Moment). record { places = p; last = now; ids = ids; timer = x; running = k .at; n = n }) te ∙ core-found (now .0) vs l r p ids n f k e)
+    (he ∙ ap (λ (x : Pick). holderOf ids (x .at)) e ∙ ap (λ (i : List Tunnel). holderOf i ((pickFor never 0 vs (choose vs)) .at)) (f .tunnels) ∙ holder-found (now .0) vs l r (tunnel 0))
+    (ap (λ (x : Pick). x .usable) e ∙ usable-found (now .0) vs l r)
+    (se ∙ ap (λ (x : Moment). timerSaid (timerAt (x .0))) (te ∙ ap (timerFor now) e) ∙ ap timerSaid (timer-said (now .0) vs l r))
+  where
+    same : (c c′ : Core) (h h′ : Holder) (u u′ : Amount) (s s′ : Timer) → c ≡ c′ → h ≡ h′ → u ≡ u′ → s ≡ s′
+        → _≡_ {A = Answer} (record { core = c; reply = Done (record { time = now; run = h; usable = u; timer = s }) }) (record { core = c′; reply = Done (record { time = now; run = h′; usable = u′; timer = s′ }) })
+    same c c′ h h′ u u′ s s′ p q v w = rw (p, q, v, w)
+
+-- the empty card
+pub empty-valid : ValidCore (coreOf empty)
+unfolding settled timer
+empty-valid = core-valid 0 [] (omega arith) (record { few = omega arith; each = tt; ranked = tt; distinct = tt })
+
+pub with-valid : (c : Core) → c ≡ coreOf empty → (c ≡ coreOf empty) × ValidCore c
+with-valid c e = (e, subst ValidCore (sym e) empty-valid)

@@ -1,0 +1,299 @@
+-- The stages of an accepted call on the written table: what is charged, that the table after each step is the rules' list written,
+-- and that what holds between calls holds of it. Assumes nothing.
+use Prim.Native.Nat.{ℕ, zero, suc, _+_, _-_, _≤_, _<_}
+use mathlib.Core.Path.{_≡_, refl, ap, sym, _∙_, subst}
+use mathlib.Core.Bool.{Bool, true, false, cond, _&&_}
+use mathlib.Core.List.{List, [], _∷_}
+use mathlib.Core.Option.{Option, none, some}
+use native.Mathlib.Omega.{arith}
+use lib.Dec.{eqb}
+use lib.ListN.{length, getD, set, length-set}
+use lib.Seq.{set-getD}
+use borrow.Author.Tests.{eq-eqb, ne-eqb}
+use Rattle.units.specs.Units.{moment, amount, tunnel}
+use Rattle.units.specs.declared.Moment.{Moment}
+use Rattle.units.specs.declared.Tunnel.{Tunnel}
+use Rattle.rules.specs.Lists.{keep, sum, All}
+use Rattle.rules.specs.Vcpu.{Description, Entry, moreUrgent}
+use Rattle.rules.specs.Vcpu.{Vcpu as Tenant}
+use Rattle.rules.specs.Card.{Card}
+use Rattle.rules.specs.Charge.{charged, charge}
+use Rattle.rules.specs.Choose.{ready, better, mostUrgent, choose, runs}
+use Rattle.rules.specs.Timer.{earlier, earliest, returns, timer}
+use Rattle.rules.specs.Turn.{settled, afterCharge}
+use Rattle.rules.proofs.Tests.{no-some}
+use Rattle.turns.specs.declared.Vcpu.{Vcpu}
+use Rattle.turns.specs.declared.Core.{Core}
+use Rattle.turns.specs.declared.Change.{Change}
+use Rattle.turns.specs.Laid.{laid}
+use Rattle.turns.specs.State.{idle, nobody, amountOf, tunnelOf, written, noTenant, card, coreOf, place, placeOf, timerOf, tenants, Distinct, termsOf, ValidTenant, ValidTenants, ValidCore}
+use Rattle.turns.specs.Steps.{chargedOf, Chargeable}
+use Rattle.turns.proofs.Laid.{laid-get, laid-set}
+use Rattle.turns.proofs.State.{tenants-laid}
+use Rattle.turns.proofs.Places.{named-set}
+use Rattle.turns.proofs.Charge.{charged-same}
+use Rattle.turns.proofs.Valid.{all-weak, all-get, charged-valid, charged-terms, tenants-later, tenants-set}
+use Rattle.turns.proofs.Rows.{idsOf, Met, verdictOf, placeNamed, judge-same}
+use Rattle.rules.specs.Refuse.{refusal}
+use Rattle.rules.specs.Refuse.{Refusal as Row}
+use Rattle.turns.specs.declared.Refusal.{Refusal}
+use Rattle.turns.specs.declared.Verdict.{Verdict}
+use Rattle.turns.specs.declared.Verdict.the-variants.{Go, Refuse}
+use Rattle.turns.specs.Judge.{judge}
+use Rattle.turns.specs.Calls.{asked}
+
+abbrev pub placesOf : List Tenant → List Vcpu
+placesOf vs = laid 32 written (written noTenant) vs
+
+-- the arrays and the count are a list of tenants written
+pub record Filled (p : List Vcpu) (ids : List Tunnel) (n : ℕ) (vs : List Tenant) : Type 0 where
+  pub places : p ≡ placesOf vs
+  pub tunnels : ids ≡ idsOf vs
+  pub count : n ≡ length vs
+
+pub filled-tenants : (p : List Vcpu) (ids : List Tunnel) (n : ℕ) (vs : List Tenant) → length vs ≤ 32 → All (λ v. length (v .pending) ≤ 8) vs → Filled p ids n vs → tenants n ids p ≡ vs
+filled-tenants p ids n vs few each f =
+    rw (f .places, f .tunnels, f .count) (tenants-laid (tunnel nobody) (written noTenant) 32 vs few each)
+
+pub small : (now : ℕ) (vs : List Tenant) → ValidTenants now vs → All (λ v. length (v .pending) ≤ 8) vs
+small now vs r = all-weak vs (λ v g. g .few) (r .each)
+
+-- setting a tenant under its own identifier
+pub filled-set : (p : List Vcpu) (ids : List Tunnel) (n i : ℕ) (x : Tenant) (vs : List Tenant) → i < length vs → length vs ≤ 32
+    → x .terms .tunnel ≡ getD vs i noTenant .terms .tunnel → Filled p ids n vs → Filled (set p i (written x)) ids n (set vs i x)
+filled-set p ids n i x vs h few e f =
+    record {
+      places = ap (λ (q : List Vcpu). set q i (written x)) (f .places) ∙ laid-set written (written noTenant) 32 vs i x h few;
+      tunnels =
+          f .tunnels
+          ∙ sym (set-getD (idsOf vs) i (tunnel nobody))
+          ∙ ap (set (idsOf vs) i) (laid-get tunnelOf (tunnel nobody) 32 vs i noTenant (tunnel nobody) h few ∙ ap tunnel (sym e))
+          ∙ laid-set tunnelOf (tunnel nobody) 32 vs i x h few;
+      count = f .count ∙ sym (length-set vs i x);
+    }
+
+-- the one chosen stands at its place
+pub record At (w : Tenant) (vs : List Tenant) : Type 0 where
+  pub inside : place (w .terms .tunnel) vs < length vs
+  pub is : getD vs (place (w .terms .tunnel) vs) noTenant ≡ w
+
+at-first : (v : Tenant) (vs : List Tenant) → At v (v ∷ vs)
+at-first v vs =
+    let e : eqb (v .terms .tunnel) (v .terms .tunnel) ≡ true = eq-eqb (v .terms .tunnel) (v .terms .tunnel) refl in
+    record { inside = rw e (omega arith); is = rw e }
+
+at-later : (w v : Tenant) (vs : List Tenant) → (w .terms .tunnel ≡ v .terms .tunnel → ⊥) → At w vs → At w (v ∷ vs)
+at-later w v vs n a =
+    let e : eqb (v .terms .tunnel) (w .terms .tunnel) ≡ false = ne-eqb (v .terms .tunnel) (w .terms .tunnel) (λ f. n (sym f)) in
+    record { inside = rw e (omega (arith, a .inside)); is = rw e (a .is) }
+
+apart-at : (v w : Tenant) (vs : List Tenant) → All (λ e. e .tunnel ≡ v .terms .tunnel → ⊥) (termsOf vs) → At w vs → w .terms .tunnel ≡ v .terms .tunnel → ⊥
+apart-at v w vs h a e = get vs (place (w .terms .tunnel) vs) h (a .inside) (ap (λ (x : Tenant). x .terms .tunnel) (a .is) ∙ e)
+  where
+    get : (l : List Tenant) (i : ℕ) → All (λ d. d .tunnel ≡ v .terms .tunnel → ⊥) (termsOf l) → i < length l → getD l i noTenant .terms .tunnel ≡ v .terms .tunnel → ⊥
+    get [] i g j = absurd (omega arith)
+    get (x ∷ l) zero g j = g .0
+    get (x ∷ l) (suc i) g j = get l i (g .1) (omega arith)
+
+pub chosen-at : (test : Tenant → Bool) (vs : List Tenant) (w : Tenant) → Distinct (termsOf vs) → mostUrgent (keep test vs) ≡ some w → At w vs
+chosen-at test [] w d e = no-some e
+chosen-at test (v ∷ vs) w d e = go (test v) e (λ u. chosen-at test vs u (d .1))
+  where
+    further : (u : Tenant) → At u vs → At u (v ∷ vs)
+    further u a = at-later u v vs (apart-at v u vs (d .0) a) a
+
+    pick : (t : Bool) (u : Tenant) → cond t u v ≡ w → At u vs → At w (v ∷ vs)
+    pick true u f a = subst (λ (x : Tenant). At x (v ∷ vs)) f (further u a)
+    pick false u f a = subst (λ (x : Tenant). At x (v ∷ vs)) f (at-first v vs)
+
+    inner : (o : Option Tenant) → ((u : Tenant) → o ≡ some u → At u vs) → some (better v o) ≡ some w → At w (v ∷ vs)
+    inner none rec f = let g : v ≡ w = cc in subst (λ (x : Tenant). At x (v ∷ vs)) g (at-first v vs)
+    inner (some u) rec f = let g : cond (moreUrgent (u .terms) (v .terms)) u v ≡ w = cc in pick (moreUrgent (u .terms) (v .terms)) u g (rec u refl)
+
+    go : (b : Bool) → mostUrgent (cond b (v ∷ keep test vs) (keep test vs)) ≡ some w → ((u : Tenant) → mostUrgent (keep test vs) ≡ some u → At u vs) → At w (v ∷ vs)
+    go true f rec = inner (mostUrgent (keep test vs)) rec f
+    go false f rec = further w (rec w f)
+
+-- what the fields of a valid core are
+module _ (c : Core) (r : ValidCore c) where
+  pub places-are : c .places ≡ placesOf (card c .vcpus)
+  unfolding coreOf
+  places-are = ap (λ (d : Core). d .places) (r .written)
+
+  pub ids-are : c .ids ≡ idsOf (card c .vcpus)
+  unfolding coreOf
+  ids-are = ap (λ (d : Core). d .ids) (r .written)
+
+  pub n-is : c .n ≡ length (card c .vcpus)
+  unfolding coreOf
+  n-is = ap (λ (d : Core). d .n) (r .written)
+
+  pub last-is : c .last ≡ moment (card c .last)
+  unfolding coreOf
+  last-is = ap (λ (d : Core). d .last) (r .written)
+
+  pub timer-is : c .timer ≡ moment (timerOf (card c .timer))
+  unfolding coreOf
+  timer-is = ap (λ (d : Core). d .timer) (r .written)
+
+  pub running-is : c .running ≡ placeOf (card c .running) (card c .vcpus)
+  unfolding coreOf
+  running-is = ap (λ (d : Core). d .running) (r .written)
+
+  pub filled : Filled (c .places) (c .ids) (c .n) (card c .vcpus)
+  filled = record { places = places-are; tunnels = ids-are; count = n-is }
+
+  seat-is : card c .running ≡ runs (choose (card c .vcpus))
+  unfolding settled
+  seat-is = ap (λ (k : Card). k .running) (r .card .settled)
+
+  pub timer-rule : card c .timer ≡ timer (card c .last) (card c .vcpus) (choose (card c .vcpus))
+  unfolding settled
+  timer-rule = ap (λ (k : Card). k .timer) (r .card .settled)
+
+-- who is charged
+pub record Runs (c : Core) (w : Tenant) : Type 0 where
+  pub seat : card c .running ≡ some (w .terms .tunnel)
+  pub chosen : choose (card c .vcpus) ≡ some w
+  pub place : c .running ≡ place (w .terms .tunnel) (card c .vcpus)
+  pub at : At w (card c .vcpus)
+
+pub data Holds (c : Core) : Type 0 where
+  held : (w : Tenant) → Runs c w → Holds c
+  idles : card c .running ≡ none → c .running ≡ idle → Holds c
+
+pub holds : (c : Core) → ValidCore c → Holds c
+holds c r = go (choose (card c .vcpus)) refl
+  where
+    go : (o : Option Tenant) → choose (card c .vcpus) ≡ o → Holds c
+    go none e =
+        let s : card c .running ≡ none = seat-is c r ∙ ap runs e in
+        idles s (running-is c r ∙ ap (λ (x : Option ℕ). placeOf x (card c .vcpus)) s)
+    go (some w) e =
+        let s : card c .running ≡ some (w .terms .tunnel) = seat-is c r ∙ ap runs e in
+        held w
+        (record {
+          seat = s;
+          chosen = e;
+          place = running-is c r ∙ ap (λ (x : Option ℕ). placeOf x (card c .vcpus)) s;
+          at = chosen-at ready (card c .vcpus) w (r .card .tenants .distinct) e;
+        })
+
+-- a slot holds no more than the sum
+slot-most : (k i : ℕ) (q : List Entry) → (getD (laid k amountOf (amount 0) q) i (amount 0)) .0 ≤ sum (λ e. e .amount) q
+unfolding laid
+slot-most zero i q = omega arith
+slot-most (suc k) zero [] = omega arith
+slot-most (suc k) (suc i) [] = slot-most k i []
+slot-most (suc k) zero (e ∷ q) = omega arith
+slot-most (suc k) (suc i) (e ∷ q) = omega (arith, slot-most k i q)
+
+-- the charge of the one that holds the core
+module _ (c : Core) (r : ValidCore c) (now : Moment) (change : Change) (m : Met (card c) (now .0) change) (w : Tenant) (h : Runs c w) where
+  sound : ValidTenant (card c .last) w
+  sound =
+      subst (ValidTenant (card c .last)) (h .at .is)
+      (all-get (ValidTenant (card c .last)) (card c .vcpus) (place (w .terms .tunnel) (card c .vcpus)) noTenant (r .card .tenants .each) (h .at .inside))
+
+  enough : now .0 - card c .last ≤ w .usable
+  unfolding timer
+  enough =
+      let t : timerOf (card c .timer) ≡ earlier (card c .last + w .usable) (earliest (returns (keep (λ x. x .runnable && moreUrgent (x .terms) (w .terms)) (card c .vcpus))))
+      = ap timerOf (timer-rule c r ∙ ap (timer (card c .last) (card c .vcpus)) (h .chosen)) in
+      omega (arith, m .timely, most (earliest (returns (keep (λ x. x .runnable && moreUrgent (x .terms) (w .terms)) (card c .vcpus)))))
+    where
+      most : (o : Option ℕ) → earlier (card c .last + w .usable) o ≤ card c .last + w .usable
+      most none = omega arith
+      most (some b) = omega arith
+
+  inside : place (w .terms .tunnel) (card c .vcpus) < length (card c .vcpus)
+  inside = h .at .inside
+
+  pub held-record : (z : Vcpu) → getD (c .places) (c .running) z ≡ written w
+  held-record z =
+      ap (λ (p : List Vcpu). getD p (c .running) z) (places-are c r)
+      ∙ ap (λ (i : ℕ). getD (placesOf (card c .vcpus)) i z) (h .place)
+      ∙ laid-get written (written noTenant) 32 (card c .vcpus) (place (w .terms .tunnel) (card c .vcpus)) noTenant z (h .at .inside) (r .card .tenants .few)
+      ∙ ap written (h .at .is)
+
+  chargeable : Chargeable (written w) (moment (card c .last)) now
+  unfolding written
+  chargeable =
+      record {
+        few = sound .few;
+        onward = m .onward;
+        enough = enough;
+        fits = λ k. omega (arith, slot-most 8 k (w .pending), sound .whole, sound .terms .capacity, sound .terms .period);
+      }
+
+  pub held-chargeable : (z : Vcpu) → Chargeable (getD (c .places) (c .running) z) (c .last) now
+  held-chargeable z = rw (held-record z, last-is c r) chargeable
+
+  charge-set : afterCharge (card c) (now .0) ≡ set (card c .vcpus) (place (w .terms .tunnel) (card c .vcpus)) (charged (card c .last) (now .0) w)
+  charge-set =
+      ap (λ (o : Option ℕ). charge (card c .last) (now .0) o (card c .vcpus)) (h .seat)
+      ∙ named-set (w .terms .tunnel) (charged (card c .last) (now .0)) noTenant (card c .vcpus) (r .card .tenants .distinct) (h .at .inside)
+      ∙ ap (λ (x : Tenant). set (card c .vcpus) (place (w .terms .tunnel) (card c .vcpus)) (charged (card c .last) (now .0) x)) (h .at .is)
+
+  terms-kept : charged (card c .last) (now .0) w .terms ≡ getD (card c .vcpus) (place (w .terms .tunnel) (card c .vcpus)) noTenant .terms
+  terms-kept = charged-terms (card c .last) (now .0) w ∙ ap (λ (x : Tenant). x .terms) (sym (h .at .is))
+
+  pub charge-valid : ValidTenants (now .0) (afterCharge (card c) (now .0))
+  charge-valid =
+      subst (ValidTenants (now .0)) (sym charge-set)
+      (tenants-set (now .0) (place (w .terms .tunnel) (card c .vcpus)) noTenant (charged (card c .last) (now .0) w) (card c .vcpus) terms-kept
+      (charged-valid (card c .last) (now .0) w sound (m .onward) enough)
+      (tenants-later (card c .last) (now .0) (card c .vcpus) (m .onward) (r .card .tenants)))
+
+  pub charge-filled : (z : Vcpu) → Filled (set (c .places) (c .running) (chargedOf (getD (c .places) (c .running) z) (c .last) now)) (c .ids) (c .n) (afterCharge (card c) (now .0))
+  charge-filled z =
+      subst (λ (p : List Vcpu). Filled p (c .ids) (c .n) (afterCharge (card c) (now .0))) (sym same)
+      (subst (Filled (set (c .places) (place (w .terms .tunnel) (card c .vcpus)) (written (charged (card c .last) (now .0) w))) (c .ids) (c .n)) (sym charge-set)
+      (filled-set (c .places) (c .ids) (c .n) (place (w .terms .tunnel) (card c .vcpus)) (charged (card c .last) (now .0) w) (card c .vcpus) (h .at .inside) (r .card .tenants .few) (ap (λ (d : Description). d .tunnel) terms-kept) (filled c r)))
+    where
+      written-charge : chargedOf (written w) (moment (card c .last)) now ≡ written (charged (card c .last) (now .0) w)
+      written-charge = charged-same (card c .last) (now .0 - card c .last) w (sound .few) (omega (arith, m .time, m .onward, sound .terms .period)) (now .0) (m .onward) refl
+
+      same : set (c .places) (c .running) (chargedOf (getD (c .places) (c .running) z) (c .last) now) ≡ set (c .places) (place (w .terms .tunnel) (card c .vcpus)) (written (charged (card c .last) (now .0) w))
+      same =
+          ap (λ (v : Vcpu). set (c .places) (c .running) (chargedOf v (c .last) now)) (held-record z)
+          ∙ ap (λ (l : Moment). set (c .places) (c .running) (chargedOf (written w) l now)) (last-is c r)
+          ∙ ap (set (c .places) (c .running)) written-charge
+          ∙ ap (λ (i : ℕ). set (c .places) i (written (charged (card c .last) (now .0) w))) (h .place)
+
+-- in idle nobody is charged
+module _ (c : Core) (r : ValidCore c) (now : Moment) (change : Change) (m : Met (card c) (now .0) change) (e : card c .running ≡ none) where
+  idle-charge : afterCharge (card c) (now .0) ≡ card c .vcpus
+  idle-charge = ap (λ (o : Option ℕ). charge (card c .last) (now .0) o (card c .vcpus)) e
+
+  pub idle-valid : ValidTenants (now .0) (afterCharge (card c) (now .0))
+  idle-valid = subst (ValidTenants (now .0)) (sym idle-charge) (tenants-later (card c .last) (now .0) (card c .vcpus) (m .onward) (r .card .tenants))
+
+  pub idle-filled : Filled (c .places) (c .ids) (c .n) (afterCharge (card c) (now .0))
+  idle-filled = subst (Filled (c .places) (c .ids) (c .n)) (sym idle-charge) (filled c r)
+
+-- the verdict on a valid core
+judged-card : (c : Core) (now : Moment) (change : Change) → ValidCore c
+    → judge (c .last) (c .timer) (c .ids) (c .n) now change ≡ verdictOf (refusal (card c) (now .0) (asked change)) (placeNamed change (card c .vcpus))
+judged-card c now change r =
+    ap (λ (l : Moment). judge l (c .timer) (c .ids) (c .n) now change) (last-is c r)
+    ∙ ap (λ (t : Moment). judge (moment (card c .last)) t (c .ids) (c .n) now change) (timer-is c r)
+    ∙ ap (λ (i : List Tunnel). judge (moment (card c .last)) (moment (timerOf (card c .timer))) i (c .n) now change) (ids-are c r)
+    ∙ ap (λ (n : ℕ). judge (moment (card c .last)) (moment (timerOf (card c .timer))) (idsOf (card c .vcpus)) n now change) (n-is c r)
+    ∙ judge-same (card c) now change (r .card .tenants .few)
+
+pub accepted-call : (c : Core) (now : Moment) (change : Change) (v : Verdict) (at : ℕ) → ValidCore c → v ≡ judge (c .last) (c .timer) (c .ids) (c .n) now change → v ≡ Go at
+    → (refusal (card c) (now .0) (asked change) ≡ none) × (at ≡ placeNamed change (card c .vcpus))
+accepted-call c now change v at r e g = go (refusal (card c) (now .0) (asked change)) (sym g ∙ e ∙ judged-card c now change r)
+  where
+    go : (o : Option Row) → Go at ≡ verdictOf o (placeNamed change (card c .vcpus)) → (o ≡ none) × (at ≡ placeNamed change (card c .vcpus))
+    go none f = (refl, cc)
+    go (some x) f = let z : _≡_ {A = ℕ} 0 1 = cc in absurd (omega arith)
+
+pub refused-call : (c : Core) (now : Moment) (change : Change) (v : Verdict) (x : Refusal) → ValidCore c → v ≡ judge (c .last) (c .timer) (c .ids) (c .n) now change → v ≡ Refuse x
+    → refusal (card c) (now .0) (asked change) ≡ some (record { number = x .number; detail = x .detail })
+refused-call c now change v x r e g = go (refusal (card c) (now .0) (asked change)) (sym g ∙ e ∙ judged-card c now change r)
+  where
+    go : (o : Option Row) → Refuse x ≡ verdictOf o (placeNamed change (card c .vcpus)) → o ≡ some (record { number = x .number; detail = x .detail })
+    go none f = let z : _≡_ {A = ℕ} 0 1 = cc in absurd (omega arith)
+    go (some y) f = let h : x ≡ record { number = y .number; detail = y .detail } = cc in ap (λ (u : Refusal). some (record { number = u .number; detail = u .detail })) (sym h)

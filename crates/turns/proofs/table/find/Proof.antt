@@ -1,0 +1,60 @@
+-- `turns::table::find` meets its contract: the loop has looked at the first k places.
+-- Assumes nothing.
+use lib.ListN.{drop-of-length-le, length, drop}
+use Rattle.turns.specs.Table.{seek}
+use Rattle.turns.proofs.Shift.{seek-here, seek-on}
+use borrow.Author.Needs.{needs}
+use Prim.Native.Nat.{_+_, _-_, _≤_, _<_}
+use native.Mathlib.Omega.{arith}
+use mathlib.Core.Path.{_≡_, ap, sym, _∙_}
+use Rattle.turns.proofs.table.find.Statement.{statement}
+use Rattle.turns.proofs.table.find.Tie as tie
+
+abbrev Inv-loop : tie.InvT-loop
+Inv-loop id ids k₀ k = (k ≤ 32) × (length ids ≡ 32) × (seek (id .0) ids ≡ k + seek (id .0) (drop k ids))
+
+abbrev μ-loop : tie.MeasureT-loop
+μ-loop id ids k₀ k = 32 - k
+
+loop-holds : tie.Need-loop-holds Inv-loop μ-loop
+loop-holds c = (omega arith, search needs, omega arith)
+
+mul-x : tie.Need-mul-x Inv-loop μ-loop
+mul-x c = search needs
+
+array-copy-out-x : tie.Need-array-copy-out-x Inv-loop μ-loop
+array-copy-out-x c = search needs
+
+same-requires : tie.Need-same-requires Inv-loop μ-loop
+same-requires c κs = search needs
+
+returns : tie.Need-returns Inv-loop μ-loop
+returns c = let i : c .before .before .before .before .loop .k < length (c .before .before .before .before .before .args .t1) = omega (arith, c .before .before .before .before .loop .inv .1, c .before .before .before .loop-test .taken) in omega (arith, c .before .before .before .before .loop .inv .2, seek-here (c .before .before .before .before .before .args .id .0) (c .before .before .before .before .before .args .t1) (c .before .before .before .before .loop .k) i (sym (c .before .same .ensures) ∙ c .if1 .taken))
+
+add-k : tie.Need-add-k Inv-loop μ-loop
+add-k c = search needs
+
+loop-less : tie.Need-loop-less Inv-loop μ-loop
+loop-less c = omega arith
+
+loop-again : tie.Need-loop-again Inv-loop μ-loop
+loop-again c = let i : c .before .before .before .before .loop .k < length (c .before .before .before .before .before .args .t1) = omega (arith, c .before .before .before .before .loop .inv .1, c .before .before .before .loop-test .taken) in (omega arith, c .before .before .before .before .loop .inv .1, c .before .before .before .before .loop .inv .2 ∙ seek-on (c .before .before .before .before .before .args .id .0) (c .before .before .before .before .before .args .t1) (c .before .before .before .before .loop .k) i (sym (c .before .same .ensures) ∙ c .if1 .left))
+
+returns-2 : tie.Need-returns-2 Inv-loop μ-loop
+returns-2 c = let h : length (c .before .before .args .t1) ≤ c .before .loop .k = omega (arith, c .before .loop .inv .1) in let f : seek (c .before .before .args .id .0) (drop (c .before .loop .k) (c .before .before .args .t1)) ≡ 0 = ap (seek (c .before .before .args .id .0)) (drop-of-length-le (c .before .before .args .t1) h) in omega (arith, c .before .loop .inv .2)
+
+pub find-spec : {M : Type 1} → statement M
+find-spec =
+    tie.close
+    (tie.spec
+    Inv-loop
+    μ-loop
+    loop-holds
+    mul-x
+    array-copy-out-x
+    same-requires
+    returns
+    add-k
+    loop-less
+    loop-again
+    returns-2)

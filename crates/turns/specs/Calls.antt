@@ -1,0 +1,108 @@
+-- What the public calls promise: the rules' call that a call is, and the rules' answer written as the answer.
+-- Assumes nothing.
+use Prim.Native.Nat.{ℕ}
+use mathlib.Core.Bool.{true, false}
+use mathlib.Core.List.{List, [], _∷_, map}
+use mathlib.Core.Option.{Option, none, some}
+use lib.ListN.{length}
+use Rattle.units.specs.Units.{moment, amount, tunnel}
+use Rattle.units.specs.declared.Moment.{Moment}
+use Rattle.rules.specs.Vcpu.{Description as Terms}
+use Rattle.rules.specs.Vcpu.{Vcpu as Tenant}
+use Rattle.rules.specs.Card.{Card, empty}
+use Rattle.rules.specs.Change.{admit, wake, block, remove, tick}
+use Rattle.rules.specs.Change.{Change as Asked}
+use Rattle.rules.specs.Turn.{Call, ok, refused, turn}
+use Rattle.rules.specs.Turn.{Report as Told}
+use Rattle.rules.specs.Turn.{Reply as Said}
+use Rattle.rules.specs.Turn.{Answer as Given}
+use Rattle.turns.specs.declared.Description.{Description}
+use Rattle.turns.specs.declared.Change.{Change}
+use Rattle.turns.specs.declared.Change.the-variants.{Admit, Wake, Block, Remove, Tick}
+use Rattle.turns.specs.declared.Holder.{Holder}
+use Rattle.turns.specs.declared.Holder.the-variants.{Idle}
+use Rattle.turns.specs.declared.Holder.the-variants.{Vcpu as Held}
+use Rattle.turns.specs.declared.Timer.{Timer}
+use Rattle.turns.specs.declared.Timer.the-variants.{Unset, At}
+use Rattle.turns.specs.declared.Report.{Report}
+use Rattle.turns.specs.declared.Reply.{Reply}
+use Rattle.turns.specs.declared.Reply.the-variants.{Done, No}
+use Rattle.turns.specs.declared.Answer.{Answer}
+use Rattle.turns.specs.declared.Core.{Core}
+use Rattle.turns.specs.declared.Look.{Look}
+use Rattle.turns.specs.declared.Status.{Status}
+use Rattle.turns.specs.State.{written, noTenant, card, coreOf}
+
+abbrev pub described : Description → Terms
+described d = record { tunnel = d .tunnel .0; period = d .period .0; capacity = d .capacity .0; priority = d .priority }
+
+abbrev pub asked : Change → Asked
+asked (Admit d) = admit (described d)
+asked (Wake t) = wake (t .0)
+asked (Block t) = block (t .0)
+asked (Remove t) = remove (t .0)
+asked Tick = tick
+
+abbrev pub callOf : Moment → Change → Call
+callOf now change = record { now = now .0; asked = asked change }
+
+-- who runs, idle for none
+abbrev pub holderSaid : Option ℕ → Holder
+holderSaid none = Idle
+holderSaid (some t) = Held (tunnel t)
+
+abbrev pub timerSaid : Option ℕ → Timer
+timerSaid none = Unset
+timerSaid (some t) = At (moment t)
+
+abbrev pub reportSaid : Told → Report
+reportSaid r =
+    record { time = moment (r .time); run = holderSaid (r .run); usable = amount (r .usable); timer = timerSaid (r .timer) }
+
+-- the paper's number and detail of a refusal, and the values of an accepted call
+abbrev pub replySaid : Said → Reply
+replySaid (ok r) = Done (reportSaid r)
+replySaid (refused r) = No (record { number = r .number; detail = r .detail })
+
+-- the other way: the paper's number and values for each case of the enums answered
+abbrev pub paperHolder : Holder → Option ℕ
+paperHolder Idle = none
+paperHolder (Held t) = some (t .0)
+
+abbrev pub paperTimer : Timer → Option ℕ
+paperTimer Unset = none
+paperTimer (At m) = some (m .0)
+
+abbrev pub paperReply : Reply → Said
+paperReply (Done r) =
+    ok (record { time = r .time .0; run = paperHolder (r .run); usable = r .usable .0; timer = paperTimer (r .timer) })
+paperReply (No x) = refused (record { number = x .number; detail = x .detail })
+
+abbrev pub answerOf : Given → Answer
+answerOf a = record { core = coreOf (a .card); reply = replySaid (a .reply) }
+
+-- the whole answer of a call at `now`: the rules' turn of the card that the core shows
+unfoldable pub turned : Core → Moment → Change → Answer
+turned c now change = answerOf (turn (card c) (callOf now change))
+
+-- everything of a VCPU; where there is none, the record of a vacant place
+abbrev pub looked : Option Tenant → Look
+looked none = record { there = false; vcpu = written noTenant }
+looked (some v) = record { there = true; vcpu = written v }
+
+abbrev pub statusOf : Card → Status
+statusOf k =
+    record { time = moment (k .last); run = holderSaid (k .running); timer = timerSaid (k .timer); vcpus = length (k .vcpus) }
+
+-- a call as a host makes it
+pub record Asking : Type 0 where
+  pub now : Moment
+  pub change : Change
+
+-- the core after any calls, refused ones among them, from the empty one; the newest call first
+abbrev pub made : List Asking → Core
+made [] = coreOf empty
+made (a ∷ calls) = (turned (made calls) (a .now) (a .change)) .core
+
+abbrev pub calls : List Asking → List Call
+calls l = map (λ a. callOf (a .now) (a .change)) l

@@ -1,0 +1,160 @@
+-- What the parts of a call do to the written form, each as its code does it. Private parts promise these; that they are the
+-- rules' steps on what the form shows is proved in proofs/. Assumes nothing.
+use Prim.Native.Nat.{ℕ, suc, _+_, _-_, _≤_, _<_, min}
+use mathlib.Core.Path.{_≡_}
+use mathlib.Core.Bool.{Bool, true, false, cond, not, _&&_}
+use mathlib.Core.List.{List, [], _∷_}
+use lib.Dec.{ltb, eqb}
+use lib.ListN.{length, getD, set}
+use Rattle.units.specs.Units.{moment, amount, tunnel, later}
+use Rattle.units.specs.declared.Moment.{Moment}
+use Rattle.units.specs.declared.Amount.{Amount}
+use Rattle.turns.specs.declared.Vcpu.{Vcpu}
+use Rattle.turns.specs.declared.Pick.{Pick}
+use Rattle.turns.specs.declared.Change.{Change}
+use Rattle.turns.specs.declared.Change.the-variants.{Admit, Wake, Block, Remove, Tick}
+use Rattle.rules.specs.Lists.{sum}
+use Rattle.rules.specs.Vcpu.{Vcpu as Tenant}
+use Rattle.turns.specs.State.{never, idle, written, shown}
+
+-- the queue's arrays, the count, the usable ticks, the end of use, or the mark, anew
+abbrev pub queueAs : Vcpu → List Moment → List Amount → ℕ → Vcpu
+queueAs v ds as′ n =
+    record {
+      due = ds;
+      ended = v .ended;
+      amount = as′;
+      period = v .period;
+      capacity = v .capacity;
+      usable = v .usable;
+      priority = v .priority;
+      runnable = v .runnable;
+      count = n;
+    }
+
+abbrev pub usedAs : Vcpu → Amount → Moment → Vcpu
+usedAs v u m =
+    record {
+      due = v .due;
+      ended = m;
+      amount = v .amount;
+      period = v .period;
+      capacity = v .capacity;
+      usable = u;
+      priority = v .priority;
+      runnable = v .runnable;
+      count = v .count;
+    }
+
+abbrev pub runnableAs : Vcpu → Bool → Vcpu
+runnableAs v b =
+    record {
+      due = v .due;
+      ended = v .ended;
+      amount = v .amount;
+      period = v .period;
+      capacity = v .capacity;
+      usable = v .usable;
+      priority = v .priority;
+      runnable = b;
+      count = v .count;
+    }
+
+abbrev pub ticksAt : Vcpu → ℕ → ℕ
+ticksAt v k = (getD (v .amount) k (amount 0)) .0
+
+abbrev pub withMore : Vcpu → ℕ → Amount → List Amount
+withMore v k used = set (v .amount) k (amount (ticksAt v k + used .0))
+
+abbrev pub joinedOf : Vcpu → Amount → Vcpu
+joinedOf v used = queueAs v (v .due) (withMore v (v .count - 1) used) (v .count)
+
+abbrev pub foldedOf : Vcpu → Amount → Moment → Vcpu
+foldedOf v used m = queueAs v (set (v .due) (v .count - 1) m) (withMore v (v .count - 1) used) (v .count)
+
+abbrev pub appendedOf : Vcpu → Amount → Moment → Vcpu
+appendedOf v used m = queueAs v (set (v .due) (v .count) m) (set (v .amount) (v .count) used) (v .count + 1)
+
+abbrev pub joinsOf : Vcpu → Moment → Bool
+joinsOf v last = ltb 0 (v .count) && eqb (v .ended .0) (last .0)
+
+unfoldable pub postedOf : Vcpu → Amount → Moment → Vcpu
+postedOf v used last =
+    cond (joinsOf v last) (joinedOf v used)
+    (cond (eqb (v .count) 8) (foldedOf v used (later last (v .period))) (appendedOf v used (later last (v .period))))
+
+abbrev pub elapsedOf : Moment → Moment → Amount
+elapsedOf last now = amount (now .0 - last .0)
+
+unfoldable pub chargedOf : Vcpu → Moment → Moment → Vcpu
+chargedOf v last now =
+    cond (eqb (last .0) (now .0)) v
+    (usedAs (postedOf v (elapsedOf last now) last) (amount (v .usable .0 - (now .0 - last .0))) now)
+
+-- what a charge asks: the slots in use fit, and the ticks held are usable ones
+pub record Chargeable (v : Vcpu) (last now : Moment) : Type 0 where
+  pub few : v .count ≤ 8
+  pub onward : last .0 ≤ now .0
+  pub enough : now .0 - last .0 ≤ v .usable .0
+  pub fits : (k : ℕ) → ticksAt v k + v .usable .0 < 4294967296
+
+-- an array of eight without its first, and `z` behind it (`o` is what a read past the end would give)
+abbrev pub nextOf : {A : Type 0} → A → A → List A → List A
+nextOf o z l =
+    getD l 1 o ∷ getD l 2 o ∷ getD l 3 o ∷ getD l 4 o ∷ getD l 5 o ∷ getD l 6 o ∷ getD l 7 o ∷ z ∷ []
+
+unfoldable pub returnedOne : Vcpu → Vcpu
+returnedOne v =
+    record {
+      due = nextOf (moment 0) (moment never) (v .due);
+      ended = v .ended;
+      amount = nextOf (amount 0) (amount 0) (v .amount);
+      period = v .period;
+      capacity = v .capacity;
+      usable = amount (v .usable .0 + ticksAt v 0);
+      priority = v .priority;
+      runnable = v .runnable;
+      count = v .count - 1;
+    }
+
+abbrev pub headOf : Vcpu → ℕ
+headOf v = (getD (v .due) 0 (moment 0)) .0
+
+unfoldable pub changedOf : Vcpu → Change → Vcpu
+changedOf v (Admit d) = v
+changedOf v (Wake t) = runnableAs v true
+changedOf v (Block t) = runnableAs v false
+changedOf v (Remove t) = v
+changedOf v Tick = v
+
+abbrev pub readyOf : Vcpu → Bool
+readyOf v = v .runnable && ltb 0 (v .usable .0)
+
+abbrev pub waitsOf : Vcpu → ℕ
+waitsOf v = cond (v .runnable) (headOf v) never
+
+-- one place more
+unfoldable pub pickedOf : Pick → ℕ → Vcpu → Pick
+pickedOf k j v =
+    cond (ltb (k .at) idle) k
+    (cond (readyOf v) (record { at = j; usable = v .usable; soon = k .soon })
+    (record { at = idle; usable = k .usable; soon = moment (min (k .soon .0) (waitsOf v)) }))
+
+-- all places from `j` on
+abbrev pub picks : Pick → ℕ → List Vcpu → Pick
+picks k j [] = k
+picks k j (v ∷ vs) = picks (pickedOf k j v) (suc j) vs
+
+unfoldable pub timerFor : Moment → Pick → Moment
+timerFor now k = cond (ltb (k .at) idle) (moment (min (later now (k .usable) .0) (k .soon .0))) (k .soon)
+
+-- the tenant that a record shows where its identifier does not matter
+abbrev pub bare : Vcpu → Tenant
+bare v = shown (tunnel 0) v
+
+-- what the return step asks: a written record whose ticks fit, and a moment below the one above all
+pub record Returnable (v : Vcpu) (now : Moment) : Type 0 where
+  pub written : v ≡ written (bare v)
+  pub few : length (bare v .pending) ≤ 8
+  pub fits : bare v .usable + sum (λ e. e .amount) (bare v .pending) < 4294967296
+  pub time : now .0 < never

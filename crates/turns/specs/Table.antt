@@ -1,0 +1,47 @@
+-- What the parts of a call that look at the table, or shift it, answer. Assumes nothing.
+use Prim.Native.Nat.{ℕ, zero, suc, _+_, _*_}
+use mathlib.Core.Bool.{cond}
+use mathlib.Core.List.{List, [], _∷_, _++_}
+use lib.Dec.{ltb, eqb}
+use lib.ListN.{getD}
+use Rattle.units.specs.Units.{tunnel}
+use Rattle.units.specs.declared.Tunnel.{Tunnel}
+use Rattle.turns.specs.declared.Vcpu.{Vcpu}
+use Rattle.turns.specs.declared.Holder.{Holder}
+use Rattle.turns.specs.declared.Holder.the-variants.{Idle}
+use Rattle.turns.specs.declared.Holder.the-variants.{Vcpu as Held}
+use Rattle.turns.specs.State.{idle}
+
+-- the first place of an identifier, or behind all
+abbrev pub seek : ℕ → List Tunnel → ℕ
+seek t [] = 0
+seek t (x ∷ xs) = cond (eqb (x .0) t) 0 (suc (seek t xs))
+
+abbrev pub holderOf : List Tunnel → ℕ → Holder
+holderOf ids at = cond (ltb at idle) (Held (getD ids at (tunnel 0))) Idle
+
+-- priority, then identifier, as one number
+abbrev pub rankOf : ℕ → ℕ → ℕ
+rankOf priority t = priority * 16777216 + t
+
+-- the first of the first `n` places whose rank is above `mine`, or `n`
+abbrev pub spotIn : ℕ → ℕ → List Vcpu → List Tunnel → ℕ
+spotIn mine zero vs ts = 0
+spotIn mine (suc n) [] ts = 0
+spotIn mine (suc n) (v ∷ vs) [] = 0
+spotIn mine (suc n) (v ∷ vs) (t ∷ ts) = cond (ltb mine (rankOf (v .priority) (t .0))) 0 (suc (spotIn mine n vs ts))
+
+module _ {A : Type 0} where
+  -- `y` at a place, what stood there and behind it one place on, and the last one gone
+  abbrev pub inserted : ℕ → A → List A → List A
+  inserted zero y [] = []
+  inserted zero y (x ∷ l) = y ∷ inserted zero x l
+  inserted (suc k) y [] = []
+  inserted (suc k) y (x ∷ l) = x ∷ inserted k y l
+
+  -- what stood behind a place one place forward, and `z` at the end
+  abbrev pub removed : ℕ → A → List A → List A
+  removed zero z [] = []
+  removed zero z (x ∷ l) = l ++ z ∷ []
+  removed (suc k) z [] = []
+  removed (suc k) z (x ∷ l) = x ∷ removed k z l

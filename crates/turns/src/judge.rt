@@ -1,0 +1,113 @@
+// The reply numbers, rows 1 to 8, from the identifiers alone: a refused call does not touch the table.
+use crate::Change;
+use crate::Description;
+use crate::IDLE;
+use crate::LARGEST_PERIOD;
+use crate::LARGEST_TIME;
+use crate::LARGEST_TUNNEL;
+use crate::MOST_VCPUS;
+use crate::Refusal;
+use crate::Verdict;
+use crate::table;
+use units::Moment;
+use units::Tunnel;
+ghost use mathlib.Core.Path.{_≡_};
+ghost use Rattle.rules.specs.Limits.{inRange};
+ghost use Rattle.turns.specs.Judge.{refuse, judgeAdmit, judgeNaming, judgeCall};
+ghost use Rattle.turns.specs.Judge.{judge as judgeRows};
+
+fn refused(number: u8, detail: u64) -> Verdict
+    ensures { λ r. ⌜ r ≡ refuse number detail ⌝ }
+{
+    Verdict::Refuse(Refusal { number, detail })
+}
+
+fn in_range(period: u32, capacity: u32) -> bool
+    ensures { λ r. ⌜ r ≡ inRange period capacity ⌝ }
+{
+    if period < 1 {
+        return false;
+    }
+    if LARGEST_PERIOD < period {
+        return false;
+    }
+    if capacity < 1 {
+        return false;
+    }
+    capacity <= period
+}
+
+fn judged_admit(ids: [Tunnel; 32], n: usize, d: Description) -> Verdict
+    ensures { λ r. ⌜ r ≡ judgeAdmit ids n d ⌝ }
+{
+    let id = d.tunnel;
+    let period = d.period;
+    let capacity = d.capacity;
+    let wide = LARGEST_TUNNEL < id.number();
+    if wide {
+        return refused(4, 0);
+    }
+    let fits = in_range(period.ticks(), capacity.ticks());
+    if !fits {
+        return refused(5, 0);
+    }
+    let there = table::find(ids, id) < IDLE;
+    if there {
+        return refused(6, 0);
+    }
+    let full = MOST_VCPUS <= n;
+    if full {
+        return refused(8, 0);
+    }
+    Verdict::Go(0)
+}
+
+fn judged_naming(ids: [Tunnel; 32], id: Tunnel) -> Verdict
+    ensures { λ r. ⌜ r ≡ judgeNaming ids (id .0) ⌝ }
+{
+    let wide = LARGEST_TUNNEL < id.number();
+    if wide {
+        return refused(4, 0);
+    }
+    let at = table::find(ids, id);
+    let absent = IDLE <= at;
+    if absent {
+        return refused(7, 0);
+    }
+    Verdict::Go(at)
+}
+
+fn judged_call(ids: [Tunnel; 32], n: usize, change: Change) -> Verdict
+    ensures { λ r. ⌜ r ≡ judgeCall ids n change ⌝ }
+{
+    match change {
+        Change::Admit(d) => judged_admit(ids, n, d),
+        Change::Wake(id) => judged_naming(ids, id),
+        Change::Block(id) => judged_naming(ids, id),
+        Change::Remove(id) => judged_naming(ids, id),
+        Change::Tick => Verdict::Go(0),
+    }
+}
+
+pub(crate) fn judged(
+    last: Moment,
+    timer: Moment,
+    ids: [Tunnel; 32],
+    n: usize,
+    now: Moment,
+    change: Change,
+) -> Verdict
+    ensures { λ r. ⌜ r ≡ judgeRows last timer ids n now change ⌝ }
+{
+    let above = LARGEST_TIME < now.ticks();
+    if above {
+        return refused(1, 0);
+    }
+    if now.before(last) {
+        return refused(2, 0);
+    }
+    if timer.before(now) {
+        return refused(3, timer.ticks());
+    }
+    judged_call(ids, n, change)
+}

@@ -1,0 +1,310 @@
+// The scheduler of one core: timed calls go in, the VCPU to run, its usable ticks and the timer come out.
+mod judge;
+mod server;
+mod table;
+
+use units::Amount;
+use units::Moment;
+use units::Tunnel;
+ghost use mathlib.Core.Path.{_≡_};
+ghost use Rattle.rules.specs.Card.{empty as emptyCard};
+ghost use Rattle.rules.specs.Card.{find as findRule};
+ghost use Rattle.turns.specs.State.{card, coreOf, ValidCore};
+ghost use Rattle.turns.specs.Calls.{turned, looked, statusOf};
+
+// The limits of the card.
+pub const LARGEST_TIME: u64 = 1000000000000;
+
+pub const LARGEST_TUNNEL: u32 = 16777215;
+
+pub const LARGEST_PERIOD: u32 = 1000000;
+
+pub const MOST_VCPUS: usize = 32;
+
+pub const MOST_PENDING: u8 = 8;
+
+// A time above all: the due time of an unused slot, and the timer where there is none.
+const NEVER: u64 = 18446744073709551615;
+// The identifier of a vacant place, above 24 bits.
+const NOBODY: u32 = 4294967295;
+// The place of nobody.
+const IDLE: usize = 32;
+
+// The whole VCPU description that an admit carries.
+pub struct Description {
+    pub tunnel: Tunnel,
+    pub period: Amount,
+    pub capacity: Amount,
+    pub priority: u8,
+}
+
+// What a call asks for.
+pub enum Change {
+    Admit(Description),
+    Wake(Tunnel),
+    Block(Tunnel),
+    Remove(Tunnel),
+    Tick,
+}
+
+// A row of the table of reply numbers; the detail is a plain number, since its meaning is the row's.
+pub struct Refusal {
+    pub number: u8,
+    pub detail: u64,
+}
+
+// Who holds the core.
+pub enum Holder {
+    Idle,
+    Vcpu(Tunnel),
+}
+
+pub enum Timer {
+    Unset,
+    At(Moment),
+}
+
+pub struct Report {
+    pub time: Moment,
+    pub run: Holder,
+    pub usable: Amount,
+    pub timer: Timer,
+}
+
+pub enum Reply {
+    Done(Report),
+    No(Refusal),
+}
+
+pub struct Answer {
+    pub core: Core,
+    pub reply: Reply,
+}
+
+// A VCPU on the card: the first `count` slots hold the pending returns in order, the others a time above all and no ticks.
+// The order of the fields leaves no gap: 120 bytes.
+pub struct Vcpu {
+    pub due: [Moment; 8],
+    pub ended: Moment,
+    pub amount: [Amount; 8],
+    pub period: Amount,
+    pub capacity: Amount,
+    pub usable: Amount,
+    pub priority: u8,
+    pub runnable: bool,
+    pub count: u8,
+}
+
+// Everything of one VCPU; where there is none, the record of a vacant place.
+pub struct Look {
+    pub there: bool,
+    pub vcpu: Vcpu,
+}
+
+// The card: the time of the last accepted call, who runs, the timer, and how many VCPUs are on it.
+pub struct Status {
+    pub time: Moment,
+    pub run: Holder,
+    pub timer: Timer,
+    pub vcpus: usize,
+}
+
+// The first `n` places are in use, the most urgent first. The order of the fields keeps a copy of the table away.
+pub struct Core {
+    places: [Vcpu; 32],
+    last: Moment,
+    ids: [Tunnel; 32],
+    timer: Moment,
+    running: usize,
+    n: usize,
+}
+
+// What a look at the places so far has found: the first ready one, its usable ticks, and the earliest return of those before it.
+struct Pick {
+    at: usize,
+    usable: Amount,
+    soon: Moment,
+}
+
+enum Verdict {
+    Go(usize),
+    Refuse(Refusal),
+}
+
+impl Core {
+    pub fn empty() -> Self
+        ensures { λ r. ⌜ (r ≡ coreOf emptyCard) × ValidCore r ⌝ }
+    {
+        let v = server::vacant();
+        let id = Tunnel::new(NOBODY);
+        Core {
+            places: [v; 32],
+            last: Moment::new(0),
+            ids: [id; 32],
+            timer: Moment::new(NEVER),
+            running: IDLE,
+            n: 0,
+        }
+    }
+
+    // One function for the five calls, with its loops and the table in it: a function that takes the table costs a copy of it.
+    pub fn turn(self, now: Moment, change: Change) -> Answer
+        requires { ⌜ ValidCore self ⌝ }
+        ensures { λ r. ⌜ (r ≡ turned self now change) × ValidCore (r .core) ⌝ }
+    {
+        let last = self.last;
+        let mut ids = self.ids;
+        let mut n = self.n;
+        let verdict = judge::judged(last, self.timer, ids, n, now, change);
+        let at = match verdict {
+            Verdict::Go(at) => at,
+            Verdict::Refuse(refusal) => {
+                return Answer {
+                    core: self,
+                    reply: Reply::No(refusal),
+                };
+            }
+        };
+        let mut p = self.places;
+        let running = self.running;
+        if running < n {
+            let v = p[running];
+            p[running] = server::charged(v, last, now);
+        }
+        let mut i = 0;
+        while i < n {
+            let v = p[i];
+            if server::due_by(v, now) {
+                p[i] = server::returned(v, now);
+            }
+            i += 1;
+        }
+        match change {
+            Change::Admit(d) => {
+                let k = table::spot(p, ids, n, d);
+                let v = server::admitted(d);
+                let id = d.tunnel;
+                let wider = table::with_vcpu(p, k, v);
+                let longer = table::with_id(ids, k, id);
+                p = wider;
+                ids = longer;
+                n += 1;
+            }
+            Change::Remove(_) => {
+                let closed = table::without_vcpu(p, at, server::vacant());
+                let shorter = table::without_id(ids, at, Tunnel::new(NOBODY));
+                p = closed;
+                ids = shorter;
+                n -= 1;
+            }
+            _ => {
+                let v = p[at];
+                p[at] = server::changed(v, change);
+            }
+        }
+        let mut pick = Pick {
+            at: IDLE,
+            usable: Amount::new(0),
+            soon: Moment::new(NEVER),
+        };
+        let mut j = 0;
+        while j < n {
+            let v = p[j];
+            pick = server::picked(pick, j, v);
+            j += 1;
+        }
+        let timer = server::timer_at(now, pick);
+        let chosen = pick.at;
+        let usable = pick.usable;
+        let report = Report {
+            time: now,
+            run: table::holder(ids, chosen),
+            usable,
+            timer: server::timer_of(timer),
+        };
+        Answer {
+            core: Core {
+                places: p,
+                last: now,
+                ids,
+                timer,
+                running: chosen,
+                n,
+            },
+            reply: Reply::Done(report),
+        }
+    }
+
+    pub fn admit(self, now: Moment, description: Description) -> Answer
+        requires { ⌜ ValidCore self ⌝ }
+        ensures { λ r. ⌜ (r ≡ turned self now (Change.Admit description)) × ValidCore (r .core) ⌝ }
+    {
+        self.turn(now, Change::Admit(description))
+    }
+
+    pub fn wake(self, now: Moment, id: Tunnel) -> Answer
+        requires { ⌜ ValidCore self ⌝ }
+        ensures { λ r. ⌜ (r ≡ turned self now (Change.Wake id)) × ValidCore (r .core) ⌝ }
+    {
+        self.turn(now, Change::Wake(id))
+    }
+
+    pub fn block(self, now: Moment, id: Tunnel) -> Answer
+        requires { ⌜ ValidCore self ⌝ }
+        ensures { λ r. ⌜ (r ≡ turned self now (Change.Block id)) × ValidCore (r .core) ⌝ }
+    {
+        self.turn(now, Change::Block(id))
+    }
+
+    pub fn remove(self, now: Moment, id: Tunnel) -> Answer
+        requires { ⌜ ValidCore self ⌝ }
+        ensures { λ r. ⌜ (r ≡ turned self now (Change.Remove id)) × ValidCore (r .core) ⌝ }
+    {
+        self.turn(now, Change::Remove(id))
+    }
+
+    pub fn tick(self, now: Moment) -> Answer
+        requires { ⌜ ValidCore self ⌝ }
+        ensures { λ r. ⌜ (r ≡ turned self now Change.Tick) × ValidCore (r .core) ⌝ }
+    {
+        self.turn(now, Change::Tick)
+    }
+
+    // What is known of the VCPU so named.
+    pub fn look(self, id: Tunnel) -> Look
+        requires { ⌜ ValidCore self ⌝ }
+        ensures { λ r. ⌜ r ≡ looked (findRule (id .0) (card self .vcpus)) ⌝ }
+    {
+        let wide = LARGEST_TUNNEL < id.number();
+        if wide {
+            let vcpu = server::vacant();
+            return Look { there: false, vcpu };
+        }
+        let ids = self.ids;
+        let at = table::find(ids, id);
+        if at < IDLE {
+            let p = self.places;
+            let vcpu = p[at];
+            return Look { there: true, vcpu };
+        }
+        let vcpu = server::vacant();
+        Look { there: false, vcpu }
+    }
+
+    pub fn status(self) -> Status
+        requires { ⌜ ValidCore self ⌝ }
+        ensures { λ r. ⌜ r ≡ statusOf (card self) ⌝ }
+    {
+        let ids = self.ids;
+        let time = self.last;
+        let timer = self.timer;
+        let run = table::holder(ids, self.running);
+        let said = server::timer_of(timer);
+        Status {
+            time,
+            run,
+            timer: said,
+            vcpus: self.n,
+        }
+    }
+}

@@ -1,0 +1,2 @@
+-- What the contracts of `units` cite. Assumes nothing.
+pub mod Units
