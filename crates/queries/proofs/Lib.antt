@@ -3,6 +3,7 @@ pub mod Places
 pub mod Steps
 pub mod Asking
 pub mod Writing
+pub mod Parts
 pub mod Replies
 pub mod Fields
 pub mod Readings
@@ -14,3 +15,4 @@ pub mod AlikeTasks
 pub mod Tasks
 pub mod FirstBad
 pub mod Meaning
+pub mod Inputs

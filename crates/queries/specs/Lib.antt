@@ -4,3 +4,4 @@ pub mod Text
 pub mod Meaning
 pub mod Reading
 pub mod Answer
+pub mod Serve

@@ -3,9 +3,12 @@
 mod answer;
 mod ask;
 mod line;
+mod part;
 mod reading;
 mod write;
 
 pub use line::Line;
 pub use line::answer_whole;
+pub use part::Served;
+pub use part::serve;
 pub use reading::Reading;

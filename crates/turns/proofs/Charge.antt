@@ -73,13 +73,15 @@ module _ (last d : ℕ) (v : Tenant) (few : length (v .pending) ≤ 8) (fits : l
   due-fits : later (moment last) (amount (v .terms .period)) ≡ moment (last + v .terms .period)
   due-fits = ap moment (omega arith)
 
-  joined-same : 0 < length (v .pending) → joinedOf (written v) (amount d) ≡ withQueue v (toLast (λ e. record { due = e .due; amount = e .amount + d }) (v .pending))
+  joined-same : 0 < length (v .pending) → joinedOf (written v) (amount d) ≡ withQueue v (toLast
+      (λ e. record { due = e .due; amount = e .amount + d }) (v .pending))
   unfolding written
   joined-same h =
       same-queue v (laid 8 dueOf (moment never) q) (laid 8 dueOf (moment never) (toLast f q))
       (set (laid 8 amountOf (amount 0) q) n (amount ((getD (laid 8 amountOf (amount 0) q) n (amount 0)) .0 + d))) (laid 8 amountOf (amount 0) (toLast f q))
       (length q) (length (toLast f q))
-      (sym (laid-last f q h few dueOf (moment never) ∙ ap (set (laid 8 dueOf (moment never) q) n) (last-due f q h few) ∙ set-getD (laid 8 dueOf (moment never) q) n (moment 0)))
+      (sym (laid-last f q h few dueOf (moment never) ∙ ap (set (laid 8 dueOf (moment never) q) n) (last-due f q h few) ∙ set-getD (laid 8 dueOf
+      (moment never) q) n (moment 0)))
       (ap (λ (m : ℕ). set (laid 8 amountOf (amount 0) q) n (amount (m + d))) (last-ticks f q h few) ∙ sym (laid-last f q h few amountOf (amount 0)))
       (sym (last-length f q))
     where
@@ -118,7 +120,8 @@ module _ (last d : ℕ) (v : Tenant) (few : length (v .pending) ≤ 8) (fits : l
       ≡ withQueue v (v .pending ++ record { due = last + v .terms .period; amount = d } ∷ [])
   unfolding written
   appended-same h =
-      same-queue v (set (laid 8 dueOf (moment never) q) (length q) (later (moment last) (amount (v .terms .period)))) (laid 8 dueOf (moment never) (q ++ e ∷ []))
+      same-queue v (set (laid 8 dueOf (moment never) q) (length q) (later (moment last) (amount (v .terms .period)))) (laid 8 dueOf (moment never)
+      (q ++ e ∷ []))
       (set (laid 8 amountOf (amount 0) q) (length q) (amount d)) (laid 8 amountOf (amount 0) (q ++ e ∷ []))
       (length q + 1) (length (q ++ e ∷ []))
       (ap (set (laid 8 dueOf (moment never) q) (length q)) due-fits ∙ laid-end dueOf (moment never) 8 q e h)
@@ -153,8 +156,10 @@ module _ (last d : ℕ) (v : Tenant) (few : length (v .pending) ≤ 8) (fits : l
           → cond (eqb (length (v .pending)) 8) (foldedOf (written v) (amount d) due) (appendedOf (written v) (amount d) due)
           ≡ withQueue v (cond b (toLast (λ e. record { due = last + v .terms .period; amount = e .amount + d }) (v .pending))
           (v .pending ++ record { due = last + v .terms .period; amount = d } ∷ []))
-      full true e = let h : 8 ≤ length (v .pending) = leb-true 8 (length (v .pending)) e in rw (eq-eqb (length (v .pending)) 8 (omega arith)) (folded-same (omega arith))
-      full false e = let h : length (v .pending) < 8 = leb-false 8 (length (v .pending)) e in rw (ne-eqb (length (v .pending)) 8 (omega arith)) (appended-same h)
+      full true e = let h : 8 ≤ length (v .pending) = leb-true 8 (length (v .pending)) e in
+          rw (eq-eqb (length (v .pending)) 8 (omega arith)) (folded-same (omega arith))
+      full false e = let h : length (v .pending) < 8 = leb-false 8 (length (v .pending)) e in
+          rw (ne-eqb (length (v .pending)) 8 (omega arith)) (appended-same h)
 
       go : (b : Bool) → joins last v ≡ b
           → cond (joinsOf (written v) (moment last)) (joinedOf (written v) (amount d))
@@ -182,7 +187,14 @@ module _ (last d : ℕ) (v : Tenant) (few : length (v .pending) ≤ 8) (fits : l
     where
       go : (b : Bool) → eqb last now ≡ b
           → cond b (written v) (usedAs (postedOf (written v) (amount (now - last)) (moment last)) (amount ((written v) .usable .0 - (now - last))) (moment now))
-          ≡ written (cond (eqb (now - last) 0) v (record { terms = v .terms; runnable = v .runnable; usable = v .usable - (now - last); ended = now; pending = posted last (now - last) v }))
+          ≡ written (cond (eqb (now - last) 0) v (record {
+            terms = v .terms;
+            runnable = v .runnable;
+            usable = v .usable -
+                (now - last);
+            ended = now;
+            pending = posted last (now - last) v;
+          }))
       go true g = let k : last ≡ now = eqb-true last now g in rw (eq-eqb (now - last) 0 (omega arith))
       go false g =
           rw (ne-eqb (now - last) 0 (λ z. eqb-false last now g (omega arith)), usable-is, sym e, posted-same) (usable-same now)

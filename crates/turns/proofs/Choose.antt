@@ -76,13 +76,20 @@ early-one : (test : Tenant → Bool) (v : Tenant) (vs : List Tenant) → All Cal
     → timerOf (earliest (returns (keep test (v ∷ vs)))) ≡ min (cond (test v) (front (v .pending)) never) (timerOf (earliest (returns (keep test vs))))
 early-one test v vs h = go (test v)
   where
-    go : (b : Bool) → timerOf (earliest (returns (cond b (v ∷ keep test vs) (keep test vs)))) ≡ min (cond b (front (v .pending)) never) (timerOf (earliest (returns (keep test vs))))
+    go : (b : Bool) → timerOf (earliest (returns (cond b (v ∷ keep test vs) (keep test vs)))) ≡ min (cond b (front (v .pending)) never) (timerOf
+        (earliest (returns (keep test vs))))
     go true =
-        omega (arith, early-append (map (λ e. e .due) (v .pending)) (returns (keep test vs)) (dues-all (v .pending) (h .0 .near)) (returns-all test vs (h .1)), early-front (v .pending) (h .0 .rising) (h .0 .near))
+        omega (
+          arith,
+          early-append (map (λ e. e .due) (v .pending)) (returns (keep test vs)) (dues-all (v .pending) (h .0 .near))
+              (returns-all test vs (h .1)),
+          early-front (v .pending) (h .0 .rising) (h .0 .near),
+        )
     go false = omega (arith, early-most (returns (keep test vs)) (returns-all test vs (h .1)))
 
 -- a fact of all terms holds of the most urgent
-urgent-all : (P : Description → Type 0) (test : Tenant → Bool) (vs : List Tenant) (w : Tenant) → All P (termsOf vs) → mostUrgent (keep test vs) ≡ some w → P (w .terms)
+urgent-all : (P : Description → Type 0) (test : Tenant → Bool) (vs : List Tenant) (w : Tenant) → All P (termsOf vs) → mostUrgent
+    (keep test vs) ≡ some w → P (w .terms)
 urgent-all P test [] w h e = no-some e
 urgent-all P test (v ∷ vs) w h e = go (test v) e (λ u. urgent-all P test vs u (h .1))
   where
@@ -94,7 +101,8 @@ urgent-all P test (v ∷ vs) w h e = go (test v) e (λ u. urgent-all P test vs u
     inner none rec f = let g : v ≡ w = cc in subst (λ (x : Tenant). P (x .terms)) g (h .0)
     inner (some u) rec f = let g : cond (moreUrgent (u .terms) (v .terms)) u v ≡ w = cc in pick (moreUrgent (u .terms) (v .terms)) u g (rec u refl)
 
-    go : (b : Bool) → mostUrgent (cond b (v ∷ keep test vs) (keep test vs)) ≡ some w → ((u : Tenant) → mostUrgent (keep test vs) ≡ some u → P (u .terms)) → P (w .terms)
+    go : (b : Bool) → mostUrgent (cond b (v ∷ keep test vs) (keep test vs)) ≡ some w → ((u : Tenant) → mostUrgent (keep test vs) ≡ some u → P
+        (u .terms)) → P (w .terms)
     go true f rec = inner (mostUrgent (keep test vs)) rec f
     go false f rec = rec w f
 
@@ -109,7 +117,8 @@ first-chosen v vs h = go (mostUrgent (keep ready vs)) refl
         rw f
 
 -- and nobody runnable is more urgent than it
-none-before : (v : Tenant) (vs : List Tenant) → All (λ e. moreUrgent (v .terms) e ≡ true) (termsOf vs) → keep (λ w. w .runnable && moreUrgent (w .terms) (v .terms)) vs ≡ []
+none-before : (v : Tenant) (vs : List Tenant) → All (λ e. moreUrgent (v .terms) e ≡ true) (termsOf vs) → keep (λ w. w .runnable && moreUrgent
+    (w .terms) (v .terms)) vs ≡ []
 none-before v [] h = refl
 none-before v (w ∷ ws) h = rw (asymmetric (v .terms) (w .terms) (h .0), and-right (w .runnable)) (none-before v ws (h .1))
 
@@ -148,7 +157,8 @@ unfolding pickedOf
 step-waits s j v e = rw (ready-written v ∙ e, head-written v, runnable-written v)
 
 -- the scan of the rest, where the one at j is not ready
-module _ (s j : ℕ) (v : Tenant) (vs : List Tenant) (calm : All Calm (v ∷ vs)) (ranked : Ranked (termsOf (v ∷ vs))) (distinct : Distinct (termsOf (v ∷ vs))) where
+module _ (s j : ℕ) (v : Tenant) (vs : List Tenant) (calm : All Calm (v ∷ vs)) (ranked : Ranked (termsOf (v ∷ vs))) (distinct : Distinct (termsOf
+    (v ∷ vs))) where
   later-chosen : (o : Option Tenant) → mostUrgent (keep ready vs) ≡ o
       → pickFor (min s (cond (v .runnable) (front (v .pending)) never)) (suc j) vs o ≡ pickFor s j (v ∷ vs) o
   later-chosen none e =
@@ -172,7 +182,8 @@ module _ (s j : ℕ) (v : Tenant) (vs : List Tenant) (calm : All Calm (v ∷ vs)
       placed-later false f = omega arith
 
       same : (k : ℕ) {m n : ℕ} → suc j + place (u .terms .tunnel) vs ≡ k → m ≡ n
-          → _≡_ {A = Pick} (record { at = suc j + place (u .terms .tunnel) vs; usable = amount (u .usable); soon = moment m }) (record { at = k; usable = amount (u .usable); soon = moment n })
+          → _≡_ {A = Pick} (record { at = suc j + place (u .terms .tunnel) vs; usable = amount (u .usable); soon = moment m })
+          (record { at = k; usable = amount (u .usable); soon = moment n })
       same k p q = rw (p, q)
 
 pub scan : (s j : ℕ) (vs : List Tenant) → s ≤ never → j + length vs ≤ idle → All Calm vs → Ranked (termsOf vs) → Distinct (termsOf vs)
@@ -190,7 +201,8 @@ scan s j (v ∷ vs) l h calm ranked distinct =
     found : record { at = j; usable = amount (v .usable); soon = moment s } ≡ pickFor s j (v ∷ vs) (some v)
     found = rw (first, none-at-all) (same (omega arith) (omega arith))
       where
-        same : {a b m n : ℕ} → a ≡ b → m ≡ n → _≡_ {A = Pick} (record { at = a; usable = amount (v .usable); soon = moment m }) (record { at = b; usable = amount (v .usable); soon = moment n })
+        same : {a b m n : ℕ} → a ≡ b → m ≡ n → _≡_ {A = Pick} (record { at = a; usable = amount (v .usable); soon = moment m })
+            (record { at = b; usable = amount (v .usable); soon = moment n })
         same p q = rw (p, q)
 
     go : (b : Bool) → ready v ≡ b

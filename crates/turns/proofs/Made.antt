@@ -65,7 +65,8 @@ paper-said (ok r) = ap ok (same (paperHolder (holderSaid (r .run))) (r .run) (pa
     time (some t) = refl
 
     same : (a a′ b b′ : Option ℕ) → a ≡ a′ → b ≡ b′
-        → _≡_ {A = Told} (record { time = r .time; run = a; usable = r .usable; timer = b }) (record { time = r .time; run = a′; usable = r .usable; timer = b′ })
+        → _≡_ {A = Told} (record { time = r .time; run = a; usable = r .usable; timer = b })
+        (record { time = r .time; run = a′; usable = r .usable; timer = b′ })
     same a a′ b b′ p q = rw (p, q)
 paper-said (refused x) = refl
 
@@ -85,11 +86,14 @@ kept c r now change =
     }
   where
     valid : (o : Option Row) → refusal (card c) (now .0) (asked change) ≡ o → ValidCore (coreOf ((answered (card c) (callOf now change) o) .card))
-    valid none e = core-valid (now .0) (changeRule (asked change) (afterReturn (card c) (now .0))) (meets c r now change e .time) (changed-good c r now change e)
+    valid none e = core-valid (now .0) (changeRule (asked change) (afterReturn (card c) (now .0))) (meets c r now change e .time)
+        (changed-good c r now change e)
     valid (some x) e = subst ValidCore (r .written) r
 
-    shows : (o : Option Row) → refusal (card c) (now .0) (asked change) ≡ o → card (coreOf ((answered (card c) (callOf now change) o) .card)) ≡ (answered (card c) (callOf now change) o) .card
-    shows none e = shown-again (now .0) (changeRule (asked change) (afterReturn (card c) (now .0))) (meets c r now change e .time) (changed-good c r now change e)
+    shows : (o : Option Row) → refusal (card c) (now .0) (asked change) ≡ o → card (coreOf ((answered (card c) (callOf now change) o) .card)) ≡
+        (answered (card c) (callOf now change) o) .card
+    shows none e = shown-again (now .0) (changeRule (asked change) (afterReturn (card c) (now .0))) (meets c r now change e .time)
+        (changed-good c r now change e)
     shows (some x) e = ap card (sym (r .written))
 
 pub record Made (l : List Asking) : Type 0 where

@@ -63,7 +63,8 @@ named-set t f z (v ∷ vs) d h = go (named t v) refl h (named-set t f z vs (d .1
     go : (b : Bool) → named t v ≡ b → cond b 0 (suc (place t vs)) < suc (length vs)
         → (place t vs < length vs → toNamed t f vs ≡ set vs (place t vs) (f (getD vs (place t vs) z)))
         → cond b (f v) v ∷ toNamed t f vs ≡ set (v ∷ vs) (cond b 0 (suc (place t vs))) (f (getD (v ∷ vs) (cond b 0 (suc (place t vs))) z))
-    go true e g rec = ap (λ (r : List Tenant). f v ∷ r) (others t f vs (subst (λ (n : ℕ). All (λ e′. e′ .tunnel ≡ n → ⊥) (termsOf vs)) (eqb-true (v .terms .tunnel) t e) (d .0)))
+    go true e g rec = ap (λ (r : List Tenant). f v ∷ r) (others t f vs (subst (λ (n : ℕ). All (λ e′. e′ .tunnel ≡ n → ⊥) (termsOf vs)) (eqb-true
+        (v .terms .tunnel) t e) (d .0)))
     go false e g rec = ap (λ (r : List Tenant). v ∷ r) (rec (omega arith))
 
 keeps : (t : ℕ) (vs : List Tenant) → All (λ e. e .tunnel ≡ t → ⊥) (termsOf vs) → keep (λ v. not (named t v)) vs ≡ vs

@@ -64,12 +64,15 @@ module _ (c : Core) (r : ValidCore c) (t : ℕ) where
       × getD (c .places) (seek t (c .ids)) z ≡ written (getD (card c .vcpus) (place t (card c .vcpus)) noTenant)
   look-there z h g = go (onCard t (card c .vcpus)) refl
     where
-      go : (b : Bool) → onCard t (card c .vcpus) ≡ b → (find t (card c .vcpus) ≡ some (getD (card c .vcpus) (place t (card c .vcpus)) noTenant)) × (getD (c .places) (seek t (c .ids)) z ≡ written (getD (card c .vcpus) (place t (card c .vcpus)) noTenant))
+      go : (b : Bool) → onCard t (card c .vcpus) ≡ b → (find t (card c .vcpus) ≡ some (getD (card c .vcpus) (place t (card c .vcpus)) noTenant)) ×
+          (getD (c .places) (seek t (c .ids)) z ≡ written (getD (card c .vcpus) (place t (card c .vcpus)) noTenant))
       go true e =
           let s : seek t (c .ids) ≡ place t (card c .vcpus) = sought h ∙ ap (λ (b : Bool). cond b (place t (card c .vcpus)) 32) e in (
             find-there t (card c .vcpus) e,
-            ap (getD (c .places) (seek t (c .ids))) refl ∙ ap (λ (i : ℕ). getD (c .places) i z) s ∙ ap (λ (p : List Vcpu). getD p (place t (card c .vcpus)) z) (places-are c r)
-                ∙ laid-get written (written noTenant) 32 (card c .vcpus) (place t (card c .vcpus)) noTenant z (place-there t (card c .vcpus) e) (r .card .tenants .few),
+            ap (getD (c .places) (seek t (c .ids))) refl ∙ ap (λ (i : ℕ). getD (c .places) i z) s ∙ ap (λ (p : List Vcpu). getD p (place t
+                (card c .vcpus)) z) (places-are c r)
+                ∙ laid-get written (written noTenant) 32 (card c .vcpus) (place t (card c .vcpus)) noTenant z (place-there t (card c .vcpus) e)
+                (r .card .tenants .few),
           )
       go false e =
           let s : seek t (c .ids) ≡ 32 = sought h ∙ ap (λ (b : Bool). cond b (place t (card c .vcpus)) 32) e in
@@ -103,7 +106,8 @@ status-shown c r h he s se =
     same h (holderSaid (runningAt (c .running) (c .ids))) s (timerSaid (timerAt (c .timer .0))) (c .n) (length (card c .vcpus))
     (he ∙ holder-shown (c .ids) (c .running) (ap length (ids-are c r) ∙ laid-length tunnelOf (tunnel nobody) 32 (card c .vcpus))) se (n-is c r)
   where
-    same : (h h′ : Holder) (s s′ : Timer) (n n′ : ℕ) → h ≡ h′ → s ≡ s′ → n ≡ n′ → _≡_ {A = Status} (record { time = c .last; run = h; timer = s; vcpus = n }) (record { time = c .last; run = h′; timer = s′; vcpus = n′ })
+    same : (h h′ : Holder) (s s′ : Timer) (n n′ : ℕ) → h ≡ h′ → s ≡ s′ → n ≡ n′ → _≡_ {A = Status}
+        (record { time = c .last; run = h; timer = s; vcpus = n }) (record { time = c .last; run = h′; timer = s′; vcpus = n′ })
     same h h′ s s′ n n′ p q v = rw (p, q, v)
 
 -- what a read of a place past the end would give

@@ -103,9 +103,22 @@ pub returned-none : (now : ℕ) (v : Tenant) → now < front (v .pending) → re
 returned-none now v h = go (v .pending) refl h
   where
     go : (q : List Entry) → v .pending ≡ q → now < front q
-        → record { terms = v .terms; runnable = v .runnable; usable = v .usable + brought now (v .pending); ended = v .ended; pending = still now (v .pending) } ≡ v
+        → record {
+          terms = v .terms;
+          runnable = v .runnable;
+          usable = v .usable + brought now (v .pending);
+          ended = v .ended;
+          pending = still now
+              (v .pending);
+        } ≡ v
     go [] e g = rw e (ap (λ (u : ℕ). record { terms = v .terms; runnable = v .runnable; usable = u; ended = v .ended; pending = [] }) (omega arith))
-    go (f ∷ q) e g = rw (e, lt-leb (f .due) now g) (ap (λ (u : ℕ). record { terms = v .terms; runnable = v .runnable; usable = u; ended = v .ended; pending = f ∷ q }) (omega arith))
+    go (f ∷ q) e g = rw (e, lt-leb (f .due) now g) (ap (λ (u : ℕ). record {
+      terms = v .terms;
+      runnable = v .runnable;
+      usable = u;
+      ended = v .ended;
+      pending = f ∷ q;
+    }) (omega arith))
 
 -- what the loop knows of a record that is returnable: the tenant it is written from, and the time of its front
 module _ (w : Vcpu) (now : Moment) (r : Returnable w now) where

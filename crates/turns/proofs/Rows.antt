@@ -53,7 +53,8 @@ module _ (vs : List Tenant) (few : length vs ≤ 32) where
   naming-same : (t : ℕ) → judgeNaming (idsOf vs) t ≡ verdictOf (namingRows vs t) (place t vs)
   unfolding judgeNaming
   naming-same t =
-      row-same (ltb largestTunnel t) 4 0 (verdictRow (leb idle (seek t (idsOf vs))) 7 0 (Go (seek t (idsOf vs)))) (row (not (onCard t vs)) 7 0 none) (place t vs)
+      row-same (ltb largestTunnel t) 4 0 (verdictRow (leb idle (seek t (idsOf vs))) 7 0 (Go (seek t (idsOf vs)))) (row (not (onCard t vs)) 7 0 none)
+      (place t vs)
       (λ f. inner (onCard t vs) refl (seek-laid t 32 vs (ltb-false largestTunnel t f) few))
     where
       inner : (b : Bool) → onCard t vs ≡ b → seek t (idsOf vs) ≡ cond (onCard t vs) (place t vs) 32
@@ -68,9 +69,11 @@ module _ (vs : List Tenant) (few : length vs ≤ 32) where
   admit-same : (d : Description) → judgeAdmit (idsOf vs) (length vs) d ≡ verdictOf (admitRows vs (described d)) 0
   unfolding judgeAdmit
   admit-same d =
-      row-same (ltb largestTunnel t) 4 0 (verdictRow (not (inRange (d .period .0) (d .capacity .0))) 5 0 (verdictRow (ltb (seek t (idsOf vs)) idle) 6 0 (verdictRow (leb mostVcpus (length vs)) 8 0 (Go 0))))
+      row-same (ltb largestTunnel t) 4 0 (verdictRow (not (inRange (d .period .0) (d .capacity .0))) 5 0 (verdictRow (ltb (seek t
+      (idsOf vs)) idle) 6 0 (verdictRow (leb mostVcpus (length vs)) 8 0 (Go 0))))
       (row (not (inRange (d .period .0) (d .capacity .0))) 5 0 (row (onCard t vs) 6 0 (row (leb mostVcpus (length vs)) 8 0 none))) 0
-      (λ f. row-same (not (inRange (d .period .0) (d .capacity .0))) 5 0 (verdictRow (ltb (seek t (idsOf vs)) idle) 6 0 (verdictRow (leb mostVcpus (length vs)) 8 0 (Go 0)))
+      (λ f. row-same (not (inRange (d .period .0) (d .capacity .0))) 5 0 (verdictRow (ltb (seek t (idsOf vs)) idle) 6 0 (verdictRow (leb mostVcpus
+      (length vs)) 8 0 (Go 0)))
       (row (onCard t vs) 6 0 (row (leb mostVcpus (length vs)) 8 0 none)) 0
       (λ g. inner (onCard t vs) refl (seek-laid t 32 vs (ltb-false largestTunnel t f) few)))
     where
@@ -78,7 +81,8 @@ module _ (vs : List Tenant) (few : length vs ≤ 32) where
       t = d .tunnel .0
 
       inner : (b : Bool) → onCard (d .tunnel .0) vs ≡ b → seek (d .tunnel .0) (idsOf vs) ≡ cond (onCard (d .tunnel .0) vs) (place (d .tunnel .0) vs) 32
-          → verdictRow (ltb (seek (d .tunnel .0) (idsOf vs)) idle) 6 0 (verdictRow (leb mostVcpus (length vs)) 8 0 (Go 0)) ≡ verdictOf (row b 6 0 (row (leb mostVcpus (length vs)) 8 0 none)) 0
+          → verdictRow (ltb (seek (d .tunnel .0) (idsOf vs)) idle) 6 0 (verdictRow (leb mostVcpus (length vs)) 8 0 (Go 0)) ≡ verdictOf (row b 6 0
+          (row (leb mostVcpus (length vs)) 8 0 none)) 0
       inner true e g =
           let s : seek (d .tunnel .0) (idsOf vs) ≡ place (d .tunnel .0) vs = g ∙ ap (λ (x : Bool). cond x (place (d .tunnel .0) vs) 32) e in
           rw (s, lt-ltb (place (d .tunnel .0) vs) idle (omega (arith, place-there (d .tunnel .0) vs e)))
@@ -99,9 +103,11 @@ pub judge-same : (k : Card) (now : Moment) (change : Change) → length (k .vcpu
 unfolding judge refusal
 judge-same k now change few =
     row-same (ltb largestTime (now .0)) 1 0
-    (verdictRow (ltb (now .0) (k .last)) 2 0 (verdictRow (ltb (timerOf (k .timer)) (now .0)) 3 (timerOf (k .timer)) (judgeCall (idsOf (k .vcpus)) (length (k .vcpus)) change)))
+    (verdictRow (ltb (now .0) (k .last)) 2 0 (verdictRow (ltb (timerOf (k .timer)) (now .0)) 3 (timerOf (k .timer)) (judgeCall (idsOf (k .vcpus))
+    (length (k .vcpus)) change)))
     (row (ltb (now .0) (k .last)) 2 0 (rowLate (k .timer) (now .0) (callRows (k .vcpus) (asked change)))) (placeNamed change (k .vcpus))
-    (λ f. row-same (ltb (now .0) (k .last)) 2 0 (verdictRow (ltb (timerOf (k .timer)) (now .0)) 3 (timerOf (k .timer)) (judgeCall (idsOf (k .vcpus)) (length (k .vcpus)) change))
+    (λ f. row-same (ltb (now .0) (k .last)) 2 0 (verdictRow (ltb (timerOf (k .timer)) (now .0)) 3 (timerOf (k .timer)) (judgeCall (idsOf (k .vcpus))
+    (length (k .vcpus)) change))
     (rowLate (k .timer) (now .0) (callRows (k .vcpus) (asked change))) (placeNamed change (k .vcpus)) (λ g. late (k .timer) (ltb-false largestTime (now .0) f)))
   where
     late : (o : Option ℕ) → now .0 ≤ largestTime
@@ -109,7 +115,8 @@ judge-same k now change few =
         ≡ verdictOf (rowLate o (now .0) (callRows (k .vcpus) (asked change))) (placeNamed change (k .vcpus))
     late none h = rw (le-ltb never (now .0) (omega arith)) (call-same (k .vcpus) few change)
     late (some t) h =
-        row-same (ltb t (now .0)) 3 t (judgeCall (idsOf (k .vcpus)) (length (k .vcpus)) change) (callRows (k .vcpus) (asked change)) (placeNamed change (k .vcpus))
+        row-same (ltb t (now .0)) 3 t (judgeCall (idsOf (k .vcpus)) (length (k .vcpus)) change) (callRows (k .vcpus) (asked change))
+        (placeNamed change (k .vcpus))
         (λ f. call-same (k .vcpus) few change)
 
 -- what an accepted call meets
@@ -145,7 +152,8 @@ met k now change e = record { time = h1; onward = ltb-false now (k .last) (p2 .0
 
 pub there : (vs : List Tenant) (t : ℕ) → namingRows vs t ≡ none → onCard t vs ≡ true
 there vs t e =
-    let p : (ltb largestTunnel t ≡ false) × (row (not (onCard t vs)) 7 0 none ≡ none) = row-none (ltb largestTunnel t) 4 0 (row (not (onCard t vs)) 7 0 none) e in
+    let p : (ltb largestTunnel t ≡ false) × (row (not (onCard t vs)) 7 0 none ≡ none) = row-none (ltb largestTunnel t) 4 0 (row (not
+    (onCard t vs)) 7 0 none) e in
     not-false (onCard t vs) (row-none (not (onCard t vs)) 7 0 none (p .1) .0)
 
 -- what an accepted admit meets
@@ -158,7 +166,15 @@ pub record Fresh (vs : List Tenant) (d : Description) : Type 0 where
   pub room : length vs < mostVcpus
 
 pub fresh : (vs : List Tenant) (d : Description) → admitRows vs (described d) ≡ none → Fresh vs d
-fresh vs d e = record { tunnel = ltb-false largestTunnel t (p1 .0); period = leb-true (d .period .0) largestPeriod (r3 .1); least = leb-true 1 (d .capacity .0) (r2 .1); capacity = leb-true (d .capacity .0) (d .period .0) (r1 .1); new = p3 .0; room = leb-false mostVcpus (length vs) p4 }
+fresh vs d e = record {
+  tunnel = ltb-false largestTunnel t (p1 .0);
+  period = leb-true (d .period .0) largestPeriod (r3 .1);
+  least = leb-true 1
+      (d .capacity .0) (r2 .1);
+  capacity = leb-true (d .capacity .0) (d .period .0) (r1 .1);
+  new = p3 .0;
+  room = leb-false mostVcpus (length vs) p4;
+}
   where
     t : ℕ
     t = d .tunnel .0

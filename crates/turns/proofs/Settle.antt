@@ -84,7 +84,8 @@ module _ (now : ℕ) (vs : List Tenant) (l : now ≤ largestTime) (r : ValidTena
     where
       go : (o : Option Tenant) → choose vs ≡ o → timer now vs o ≡ some t → t < never
       go none e f =
-          let g : t ≤ bound = early-below (returns (keep (λ w. w .runnable) vs)) t (returns-below now (keep (λ w. w .runnable) vs) l (all-keep (ValidTenant now) (λ w. w .runnable) vs (r .each))) f in
+          let g : t ≤ bound = early-below (returns (keep (λ w. w .runnable) vs)) t (returns-below now (keep (λ w. w .runnable) vs) l (all-keep
+          (ValidTenant now) (λ w. w .runnable) vs (r .each))) f in
           omega arith
       go (some v) e f =
           let a : At v vs = chosen-at ready vs v (r .distinct) e in
@@ -97,7 +98,8 @@ module _ (now : ℕ) (vs : List Tenant) (l : now ≤ largestTime) (r : ValidTena
 
           small-usable : (v : Tenant) → At v vs → v .usable ≤ largestPeriod
           small-usable v a =
-              let s : ValidTenant now v = subst (ValidTenant now) (a .is) (all-get (ValidTenant now) vs (place (v .terms .tunnel) vs) noTenant (r .each) (a .inside)) in
+              let s : ValidTenant now v = subst (ValidTenant now) (a .is) (all-get (ValidTenant now) vs (place (v .terms .tunnel) vs) noTenant
+              (r .each) (a .inside)) in
               omega (arith, s .whole, s .terms .capacity, s .terms .period)
 
   timer-back : timerAt (timerOf (timer now vs (choose vs))) ≡ timer now vs (choose vs)
@@ -115,7 +117,8 @@ module _ (now : ℕ) (vs : List Tenant) (l : now ≤ largestTime) (r : ValidTena
       go (some v) e =
           let a : At v vs = chosen-at ready vs v (r .distinct) e in
           rw (lt-ltb (place (v .terms .tunnel) vs) idle (omega (arith, a .inside, r .few)))
-          (ap (λ (x : Tunnel). some (x .0)) (laid-get tunnelOf (tunnel nobody) 32 vs (place (v .terms .tunnel) vs) noTenant (tunnel nobody) (a .inside) (r .few)) ∙ ap (λ (x : Tenant). some (x .terms .tunnel)) (a .is))
+          (ap (λ (x : Tunnel). some (x .0)) (laid-get tunnelOf (tunnel nobody) 32 vs (place (v .terms .tunnel) vs) noTenant (tunnel nobody)
+          (a .inside) (r .few)) ∙ ap (λ (x : Tenant). some (x .terms .tunnel)) (a .is))
 
   -- what is written is shown again
   pub shown-again : card (coreOf (settled now vs)) ≡ settled now vs
@@ -125,7 +128,13 @@ module _ (now : ℕ) (vs : List Tenant) (l : now ≤ largestTime) (r : ValidTena
       running-back timer-back (tenants-laid (tunnel nobody) (written noTenant) 32 vs (r .few) (small now vs r))
     where
       same : (a : Option ℕ) (b : Option ℕ) (c : List Tenant) → a ≡ runs (choose vs) → b ≡ timer now vs (choose vs) → c ≡ vs
-          → _≡_ {A = Card} (record { last = now; running = a; timer = b; vcpus = c }) (record { last = now; running = runs (choose vs); timer = timer now vs (choose vs); vcpus = vs })
+          → _≡_ {A = Card} (record { last = now; running = a; timer = b; vcpus = c }) (record {
+            last = now;
+            running = runs
+                (choose vs);
+            timer = timer now vs (choose vs);
+            vcpus = vs;
+          })
       same a b c p q s = rw (p, q, s)
 
   pub settled-valid : ValidCard (settled now vs)
@@ -159,7 +168,8 @@ module _ (now : ℕ) (vs : List Tenant) (l : now ≤ largestTime) (r : ValidTena
     where
       go : (o : Option ℕ) → earliest (returns (keep test vs)) ≡ o → timerOf o ≤ never
       go none e = omega arith
-      go (some t) e = let g : t ≤ bound = early-below (returns (keep test vs)) t (returns-below now (keep test vs) l (all-keep (ValidTenant now) test vs (r .each))) e in omega arith
+      go (some t) e = let g : t ≤ bound = early-below (returns (keep test vs)) t (returns-below now (keep test vs) l (all-keep
+          (ValidTenant now) test vs (r .each))) e in omega arith
 
   pub timer-found : timerFor (moment now) (pickFor never 0 vs (choose vs)) ≡ moment (timerOf (timer now vs (choose vs)))
   unfolding timerFor timer
@@ -170,7 +180,13 @@ module _ (now : ℕ) (vs : List Tenant) (l : now ≤ largestTime) (r : ValidTena
       go (some v) e =
           let a : At v vs = chosen-at ready vs v (r .distinct) e in
           rw (lt-ltb (0 + place (v .terms .tunnel) vs) idle (omega (arith, a .inside, r .few)))
-          (ap moment (omega (arith, early-within (λ w. w .runnable && moreUrgent (w .terms) (v .terms)), earlier-min (now + v .usable) (earliest (returns (keep (λ w. w .runnable && moreUrgent (w .terms) (v .terms)) vs))) (omega (arith, usable-small v a)), usable-small v a)))
+          (ap moment (omega (
+            arith,
+            early-within (λ w. w .runnable && moreUrgent (w .terms) (v .terms)),
+            earlier-min (now + v .usable) (earliest
+                (returns (keep (λ w. w .runnable && moreUrgent (w .terms) (v .terms)) vs))) (omega (arith, usable-small v a)),
+            usable-small v a,
+          )))
         where
           earlier-min : (b : ℕ) (o : Option ℕ) → b ≤ never → earlier b o ≡ min b (timerOf o)
           earlier-min b none h = omega arith
@@ -198,14 +214,25 @@ module _ (now : ℕ) (vs : List Tenant) (l : now ≤ largestTime) (r : ValidTena
         ∙ scan never 0 vs (omega arith) (omega (arith, r .few)) (calm now vs l (r .each)) (r .ranked) (r .distinct)
 
     pub core-found : (k : Pick) → k ≡ pickFor never 0 vs (choose vs)
-        → _≡_ {A = Core} (record { places = p; last = moment now; ids = ids; timer = timerFor (moment now) k; running = k .at; n = n }) (coreOf (settled now vs))
+        → _≡_ {A = Core} (record { places = p; last = moment now; ids = ids; timer = timerFor (moment now) k; running = k .at; n = n }) (coreOf
+        (settled now vs))
     unfolding coreOf settled
     core-found k e =
-        same p ids (timerFor (moment now) k) (k .at) n (f .places) (f .tunnels) (ap (timerFor (moment now)) e ∙ timer-found) (ap (λ (x : Pick). x .at) e ∙ seat-found) (f .count)
+        same p ids (timerFor (moment now) k) (k .at) n (f .places) (f .tunnels) (ap (timerFor (moment now)) e ∙ timer-found) (ap (λ
+        (x : Pick). x .at) e ∙ seat-found) (f .count)
       where
-        same : (p : List Vcpu) (ids : List Tunnel) (t : Moment) (a m : ℕ) → p ≡ placesOf vs → ids ≡ idsOf vs → t ≡ moment (timerOf (timer now vs (choose vs))) → a ≡ placeOf (runs (choose vs)) vs → m ≡ length vs
+        same : (p : List Vcpu) (ids : List Tunnel) (t : Moment) (a m : ℕ) → p ≡ placesOf vs → ids ≡ idsOf vs → t ≡ moment (timerOf (timer now vs
+            (choose vs))) → a ≡ placeOf (runs (choose vs)) vs → m ≡ length vs
             → _≡_ {A = Core} (record { places = p; last = moment now; ids = ids; timer = t; running = a; n = m })
-            (record { places = placesOf vs; last = moment now; ids = idsOf vs; timer = moment (timerOf (timer now vs (choose vs))); running = placeOf (runs (choose vs)) vs; n = length vs })
+            (record {
+              places = placesOf vs;
+              last = moment now;
+              ids = idsOf vs;
+              timer = moment (timerOf (timer now vs
+                  (choose vs)));
+              running = placeOf (runs (choose vs)) vs;
+              n = length vs;
+            })
         same p ids t a m u v w x y = rw (u, v, w, x, y)
 
 -- one place more of the scan, and its end
@@ -221,11 +248,16 @@ scan-end k j n p h g = let l : length (take n p) ≤ j = omega (arith, length-ta
 -- the whole answer of an accepted call, and of a refused one
 pub turned-accepted : (c : Core) (now : Moment) (change : Change) → refusal (card c) (now .0) (asked change) ≡ none
     → turned c now change
-    ≡ answerOf (record { reply = ok (report (settled (now .0) (changeRule (asked change) (afterReturn (card c) (now .0))))); card = settled (now .0) (changeRule (asked change) (afterReturn (card c) (now .0))) })
+    ≡ answerOf (record {
+      reply = ok (report (settled (now .0) (changeRule (asked change) (afterReturn (card c) (now .0)))));
+      card = settled (now .0)
+          (changeRule (asked change) (afterReturn (card c) (now .0)));
+    })
 unfolding turned turn
 turned-accepted c now change e = ap (λ (o : Option Row). answerOf (answered (card c) (callOf now change) o)) e
 
-pub turned-refused : (c : Core) (now : Moment) (change : Change) (x : Refusal) → ValidCore c → refusal (card c) (now .0) (asked change) ≡ some (record { number = x .number; detail = x .detail })
+pub turned-refused : (c : Core) (now : Moment) (change : Change) (x : Refusal) → ValidCore c → refusal (card c) (now .0) (asked change) ≡ some
+    (record { number = x .number; detail = x .detail })
     → record { core = c; reply = No x } ≡ turned c now change
 unfolding turned turn
 turned-refused c now change x r e =
@@ -237,18 +269,25 @@ pub answer-found : (now : Moment) (vs : List Tenant) → now .0 ≤ largestTime 
     → (k : Pick) → k ≡ pickFor never 0 vs (choose vs)
     → (t : Moment) → t ≡ timerFor now k → (h : Holder) → h ≡ holderOf ids (k .at) → (s : Timer) → s ≡ timerSaid (timerAt (t .0))
     → _≡_ {A = Answer}
-    (record { core = record { places = p; last = now; ids = ids; timer = t; running = k .at; n = n }; reply = Done (record { time = now; run = h; usable = k .usable; timer = s }) })
+    (record {
+      core = record { places = p; last = now; ids = ids; timer = t; running = k .at; n = n };
+      reply = Done
+          (record { time = now; run = h; usable = k .usable; timer = s });
+    })
     (answerOf (record { reply = ok (report (settled (now .0) vs)); card = settled (now .0) vs }))
 unfolding settled
 answer-found now vs l r p ids n f k e t te h he s se =
-    same (record { places = p; last = now; ids = ids; timer = t; running = k .at; n = n }) (coreOf (settled (now .0) vs)) h (holderSaid (runs (choose vs))) (k .usable) (amount (usableOf (choose vs))) s (timerSaid (timer (now .0) vs (choose vs)))
+    same (record { places = p; last = now; ids = ids; timer = t; running = k .at; n = n }) (coreOf (settled (now .0) vs)) h (holderSaid (runs
+    (choose vs))) (k .usable) (amount (usableOf (choose vs))) s (timerSaid (timer (now .0) vs (choose vs)))
     (ap (λ (x : Moment). record { places = p; last = now; ids = ids; timer = x; running = k .at; n = n }) te ∙ core-found (now .0) vs l r p ids n f k e)
-    (he ∙ ap (λ (x : Pick). holderOf ids (x .at)) e ∙ ap (λ (i : List Tunnel). holderOf i ((pickFor never 0 vs (choose vs)) .at)) (f .tunnels) ∙ holder-found (now .0) vs l r (tunnel 0))
+    (he ∙ ap (λ (x : Pick). holderOf ids (x .at)) e ∙ ap (λ (i : List Tunnel). holderOf i ((pickFor never 0 vs (choose vs)) .at)) (f .tunnels)
+    ∙ holder-found (now .0) vs l r (tunnel 0))
     (ap (λ (x : Pick). x .usable) e ∙ usable-found (now .0) vs l r)
     (se ∙ ap (λ (x : Moment). timerSaid (timerAt (x .0))) (te ∙ ap (timerFor now) e) ∙ ap timerSaid (timer-said (now .0) vs l r))
   where
     same : (c c′ : Core) (h h′ : Holder) (u u′ : Amount) (s s′ : Timer) → c ≡ c′ → h ≡ h′ → u ≡ u′ → s ≡ s′
-        → _≡_ {A = Answer} (record { core = c; reply = Done (record { time = now; run = h; usable = u; timer = s }) }) (record { core = c′; reply = Done (record { time = now; run = h′; usable = u′; timer = s′ }) })
+        → _≡_ {A = Answer} (record { core = c; reply = Done (record { time = now; run = h; usable = u; timer = s }) })
+        (record { core = c′; reply = Done (record { time = now; run = h′; usable = u′; timer = s′ }) })
     same c c′ h h′ u u′ s s′ p q v w = rw (p, q, v, w)
 
 -- the empty card

@@ -101,12 +101,14 @@ module _ (p : List Vcpu) (ids : List Tunnel) (n : ℕ) (vs : List Tenant) (now :
           places =
               ap (λ (k : ℕ). inserted k (written (admitted (described d))) p) spot-is
               ∙ ap (inserted (spotOf (admitted (described d)) vs) (written (admitted (described d)))) (f .places)
-              ∙ laid-put written (written noTenant) 32 vs (spotOf (admitted (described d)) vs) (admitted (described d)) (spot-most (admitted (described d)) vs) (q .room)
+              ∙ laid-put written (written noTenant) 32 vs (spotOf (admitted (described d)) vs) (admitted (described d)) (spot-most (admitted
+              (described d)) vs) (q .room)
               ∙ ap placesOf (sym (placed-put (admitted (described d)) vs));
           tunnels =
               ap (λ (k : ℕ). inserted k (d .tunnel) ids) spot-is
               ∙ ap (inserted (spotOf (admitted (described d)) vs) (d .tunnel)) (f .tunnels)
-              ∙ laid-put tunnelOf (tunnel nobody) 32 vs (spotOf (admitted (described d)) vs) (admitted (described d)) (spot-most (admitted (described d)) vs) (q .room)
+              ∙ laid-put tunnelOf (tunnel nobody) 32 vs (spotOf (admitted (described d)) vs) (admitted (described d)) (spot-most (admitted
+              (described d)) vs) (q .room)
               ∙ ap idsOf (sym (placed-put (admitted (described d)) vs));
           count = omega (arith, f .count, placed-length (admitted (described d)) vs);
         }
@@ -153,7 +155,8 @@ module _ (p : List Vcpu) (ids : List Tunnel) (n : ℕ) (vs : List Tenant) (now :
     pub mark-filled : (b : Bool) (z : Vcpu) → Filled (set p at (written (setRunnable b (getD vs (place t vs) noTenant)))) ids n (toNamed t (setRunnable b) vs)
     mark-filled b z =
         subst (λ (k : ℕ). Filled (set p k (written (setRunnable b (getD vs (place t vs) noTenant)))) ids n (toNamed t (setRunnable b) vs)) (sym e)
-        (subst (Filled (set p (place t vs) (written (setRunnable b (getD vs (place t vs) noTenant)))) ids n) (sym (named-set t (setRunnable b) noTenant vs (r .distinct) h))
+        (subst (Filled (set p (place t vs) (written (setRunnable b (getD vs (place t vs) noTenant)))) ids n) (sym (named-set t
+        (setRunnable b) noTenant vs (r .distinct) h))
         (filled-set p ids n (place t vs) (setRunnable b (getD vs (place t vs) noTenant)) vs h (r .few) refl f))
 
     pub mark-valid : (b : Bool) → ValidTenants now (toNamed t (setRunnable b) vs)
@@ -193,7 +196,8 @@ never-tag n (inr e) (inl f) = omega arith
 never-tag n (inr e) (inr (inl f)) = omega arith
 never-tag n (inr e) (inr (inr f)) = omega arith
 
-module _ (k : Card) (now : ℕ) (p : List Vcpu) (ids : List Tunnel) (n : ℕ) (f : Filled p ids n (afterReturn k now)) (r : ValidTenants now (afterReturn k now)) where
+module _ (k : Card) (now : ℕ) (p : List Vcpu) (ids : List Tunnel) (n : ℕ) (f : Filled p ids n (afterReturn k now)) (r : ValidTenants now
+    (afterReturn k now)) where
   pub named-place : (t : ℕ) → namingRows (k .vcpus) t ≡ none → place t (afterReturn k now) < length (afterReturn k now)
   named-place t e = place-there t (afterReturn k now) (return-on k now t ∙ there (k .vcpus) t e)
 
@@ -210,7 +214,8 @@ module _ (k : Card) (now : ℕ) (p : List Vcpu) (ids : List Tunnel) (n : ℕ) (f
       }
 
   marks : (t : Tunnel) (b : Bool) (at : ℕ) (z : Vcpu) (asks : Vcpu → Vcpu) → at ≡ place (t .0) (k .vcpus) → namingRows (k .vcpus) (t .0) ≡ none
-      → ((v : Tenant) → asks (written v) ≡ written (setRunnable b v)) → Filled (set p at (asks (getD p at z))) ids n (toNamed (t .0) (setRunnable b) (afterReturn k now))
+      → ((v : Tenant) → asks (written v) ≡ written (setRunnable b v)) → Filled (set p at (asks (getD p at z))) ids n (toNamed (t .0) (setRunnable b)
+      (afterReturn k now))
   marks t b at z asks e m g =
       let i : at ≡ place (t .0) (afterReturn k now) = e ∙ sym (return-place k now (t .0)) in
       let h : place (t .0) (afterReturn k now) < length (afterReturn k now) = named-place (t .0) m in
@@ -218,13 +223,15 @@ module _ (k : Card) (now : ℕ) (p : List Vcpu) (ids : List Tunnel) (n : ℕ) (f
       (sym (ap asks (mark-read p ids n (afterReturn k now) now f r (t .0) at i h z) ∙ g (getD (afterReturn k now) (place (t .0) (afterReturn k now)) noTenant)))
       (mark-filled p ids n (afterReturn k now) now f r (t .0) at i h b z)
 
-  pub plain-filled : (change : Change) (at : ℕ) (z : Vcpu) → OneOf (1 ∷ 2 ∷ 4 ∷ []) (tagOf the-type change) → callRows (k .vcpus) (asked change) ≡ none → at ≡ placeNamed change (k .vcpus)
+  pub plain-filled : (change : Change) (at : ℕ) (z : Vcpu) → OneOf (1 ∷ 2 ∷ 4 ∷ []) (tagOf the-type change) → callRows (k .vcpus)
+      (asked change) ≡ none → at ≡ placeNamed change (k .vcpus)
       → Filled (set p at (changedOf (getD p at z) change)) ids n (changeRule (asked change) (afterReturn k now))
   plain-filled (Admit d) at z o m e = absurd (never-tag 0 (inl refl) o)
   plain-filled (Wake t) at z o m e = marks t true at z (λ v. changedOf v (Wake t)) e m (λ v. wake-written v t)
   plain-filled (Block t) at z o m e = marks t false at z (λ v. changedOf v (Block t)) e m (λ v. block-written v t)
   plain-filled (Remove t) at z o m e = absurd (never-tag 3 (inr refl) o)
-  plain-filled Tick at z o m e = subst (λ (q : List Vcpu). Filled q ids n (afterReturn k now)) (sym (ap (set p at) (tick-same (getD p at z)) ∙ set-getD p at z)) f
+  plain-filled Tick at z o m e = subst (λ (q : List Vcpu). Filled q ids n (afterReturn k now)) (sym (ap (set p at) (tick-same (getD p at z))
+      ∙ set-getD p at z)) f
 
   pub change-valid : (change : Change) → callRows (k .vcpus) (asked change) ≡ none → ValidTenants now (changeRule (asked change) (afterReturn k now))
   change-valid (Admit d) m = admit-valid p ids n (afterReturn k now) now f r d (fresh-after d m)

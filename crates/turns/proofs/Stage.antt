@@ -51,7 +51,8 @@ pub record Filled (p : List Vcpu) (ids : List Tunnel) (n : ℕ) (vs : List Tenan
   pub tunnels : ids ≡ idsOf vs
   pub count : n ≡ length vs
 
-pub filled-tenants : (p : List Vcpu) (ids : List Tunnel) (n : ℕ) (vs : List Tenant) → length vs ≤ 32 → All (λ v. length (v .pending) ≤ 8) vs → Filled p ids n vs → tenants n ids p ≡ vs
+pub filled-tenants : (p : List Vcpu) (ids : List Tunnel) (n : ℕ) (vs : List Tenant) → length vs ≤ 32 → All (λ v. length (v .pending) ≤ 8) vs
+    → Filled p ids n vs → tenants n ids p ≡ vs
 filled-tenants p ids n vs few each f =
     rw (f .places, f .tunnels, f .count) (tenants-laid (tunnel nobody) (written noTenant) 32 vs few each)
 
@@ -90,7 +91,8 @@ at-later w v vs n a =
 apart-at : (v w : Tenant) (vs : List Tenant) → All (λ e. e .tunnel ≡ v .terms .tunnel → ⊥) (termsOf vs) → At w vs → w .terms .tunnel ≡ v .terms .tunnel → ⊥
 apart-at v w vs h a e = get vs (place (w .terms .tunnel) vs) h (a .inside) (ap (λ (x : Tenant). x .terms .tunnel) (a .is) ∙ e)
   where
-    get : (l : List Tenant) (i : ℕ) → All (λ d. d .tunnel ≡ v .terms .tunnel → ⊥) (termsOf l) → i < length l → getD l i noTenant .terms .tunnel ≡ v .terms .tunnel → ⊥
+    get : (l : List Tenant) (i : ℕ) → All (λ d. d .tunnel ≡ v .terms .tunnel → ⊥) (termsOf l) → i < length l
+        → getD l i noTenant .terms .tunnel ≡ v .terms .tunnel → ⊥
     get [] i g j = absurd (omega arith)
     get (x ∷ l) zero g j = g .0
     get (x ∷ l) (suc i) g j = get l i (g .1) (omega arith)
@@ -110,7 +112,8 @@ chosen-at test (v ∷ vs) w d e = go (test v) e (λ u. chosen-at test vs u (d .1
     inner none rec f = let g : v ≡ w = cc in subst (λ (x : Tenant). At x (v ∷ vs)) g (at-first v vs)
     inner (some u) rec f = let g : cond (moreUrgent (u .terms) (v .terms)) u v ≡ w = cc in pick (moreUrgent (u .terms) (v .terms)) u g (rec u refl)
 
-    go : (b : Bool) → mostUrgent (cond b (v ∷ keep test vs) (keep test vs)) ≡ some w → ((u : Tenant) → mostUrgent (keep test vs) ≡ some u → At u vs) → At w (v ∷ vs)
+    go : (b : Bool) → mostUrgent (cond b (v ∷ keep test vs) (keep test vs)) ≡ some w → ((u : Tenant) → mostUrgent (keep test vs) ≡ some u → At u vs)
+        → At w (v ∷ vs)
     go true f rec = inner (mostUrgent (keep test vs)) rec f
     go false f rec = further w (rec w f)
 
@@ -198,7 +201,8 @@ module _ (c : Core) (r : ValidCore c) (now : Moment) (change : Change) (m : Met 
   enough : now .0 - card c .last ≤ w .usable
   unfolding timer
   enough =
-      let t : timerOf (card c .timer) ≡ earlier (card c .last + w .usable) (earliest (returns (keep (λ x. x .runnable && moreUrgent (x .terms) (w .terms)) (card c .vcpus))))
+      let t : timerOf (card c .timer) ≡ earlier (card c .last + w .usable) (earliest (returns (keep (λ x. x .runnable && moreUrgent (x .terms)
+      (w .terms)) (card c .vcpus))))
       = ap timerOf (timer-rule c r ∙ ap (timer (card c .last) (card c .vcpus)) (h .chosen)) in
       omega (arith, m .timely, most (earliest (returns (keep (λ x. x .runnable && moreUrgent (x .terms) (w .terms)) (card c .vcpus)))))
     where
@@ -245,16 +249,21 @@ module _ (c : Core) (r : ValidCore c) (now : Moment) (change : Change) (m : Met 
       (charged-valid (card c .last) (now .0) w sound (m .onward) enough)
       (tenants-later (card c .last) (now .0) (card c .vcpus) (m .onward) (r .card .tenants)))
 
-  pub charge-filled : (z : Vcpu) → Filled (set (c .places) (c .running) (chargedOf (getD (c .places) (c .running) z) (c .last) now)) (c .ids) (c .n) (afterCharge (card c) (now .0))
+  pub charge-filled : (z : Vcpu) → Filled (set (c .places) (c .running) (chargedOf (getD (c .places) (c .running) z) (c .last) now)) (c .ids) (c .n)
+      (afterCharge (card c) (now .0))
   charge-filled z =
       subst (λ (p : List Vcpu). Filled p (c .ids) (c .n) (afterCharge (card c) (now .0))) (sym same)
-      (subst (Filled (set (c .places) (place (w .terms .tunnel) (card c .vcpus)) (written (charged (card c .last) (now .0) w))) (c .ids) (c .n)) (sym charge-set)
-      (filled-set (c .places) (c .ids) (c .n) (place (w .terms .tunnel) (card c .vcpus)) (charged (card c .last) (now .0) w) (card c .vcpus) (h .at .inside) (r .card .tenants .few) (ap (λ (d : Description). d .tunnel) terms-kept) (filled c r)))
+      (subst (Filled (set (c .places) (place (w .terms .tunnel) (card c .vcpus)) (written (charged (card c .last) (now .0) w))) (c .ids) (c .n))
+      (sym charge-set)
+      (filled-set (c .places) (c .ids) (c .n) (place (w .terms .tunnel) (card c .vcpus)) (charged (card c .last) (now .0) w) (card c .vcpus)
+      (h .at .inside) (r .card .tenants .few) (ap (λ (d : Description). d .tunnel) terms-kept) (filled c r)))
     where
       written-charge : chargedOf (written w) (moment (card c .last)) now ≡ written (charged (card c .last) (now .0) w)
-      written-charge = charged-same (card c .last) (now .0 - card c .last) w (sound .few) (omega (arith, m .time, m .onward, sound .terms .period)) (now .0) (m .onward) refl
+      written-charge = charged-same (card c .last) (now .0 - card c .last) w (sound .few) (omega (arith, m .time, m .onward, sound .terms .period))
+          (now .0) (m .onward) refl
 
-      same : set (c .places) (c .running) (chargedOf (getD (c .places) (c .running) z) (c .last) now) ≡ set (c .places) (place (w .terms .tunnel) (card c .vcpus)) (written (charged (card c .last) (now .0) w))
+      same : set (c .places) (c .running) (chargedOf (getD (c .places) (c .running) z) (c .last) now) ≡ set (c .places) (place (w .terms .tunnel)
+          (card c .vcpus)) (written (charged (card c .last) (now .0) w))
       same =
           ap (λ (v : Vcpu). set (c .places) (c .running) (chargedOf v (c .last) now)) (held-record z)
           ∙ ap (λ (l : Moment). set (c .places) (c .running) (chargedOf (written w) l now)) (last-is c r)
@@ -282,7 +291,8 @@ judged-card c now change r =
     ∙ ap (λ (n : ℕ). judge (moment (card c .last)) (moment (timerOf (card c .timer))) (idsOf (card c .vcpus)) n now change) (n-is c r)
     ∙ judge-same (card c) now change (r .card .tenants .few)
 
-pub accepted-call : (c : Core) (now : Moment) (change : Change) (v : Verdict) (at : ℕ) → ValidCore c → v ≡ judge (c .last) (c .timer) (c .ids) (c .n) now change → v ≡ Go at
+pub accepted-call : (c : Core) (now : Moment) (change : Change) (v : Verdict) (at : ℕ) → ValidCore c → v ≡ judge (c .last) (c .timer) (c .ids)
+    (c .n) now change → v ≡ Go at
     → (refusal (card c) (now .0) (asked change) ≡ none) × (at ≡ placeNamed change (card c .vcpus))
 accepted-call c now change v at r e g = go (refusal (card c) (now .0) (asked change)) (sym g ∙ e ∙ judged-card c now change r)
   where
@@ -290,10 +300,12 @@ accepted-call c now change v at r e g = go (refusal (card c) (now .0) (asked cha
     go none f = (refl, cc)
     go (some x) f = let z : _≡_ {A = ℕ} 0 1 = cc in absurd (omega arith)
 
-pub refused-call : (c : Core) (now : Moment) (change : Change) (v : Verdict) (x : Refusal) → ValidCore c → v ≡ judge (c .last) (c .timer) (c .ids) (c .n) now change → v ≡ Refuse x
+pub refused-call : (c : Core) (now : Moment) (change : Change) (v : Verdict) (x : Refusal) → ValidCore c → v ≡ judge (c .last) (c .timer) (c .ids)
+    (c .n) now change → v ≡ Refuse x
     → refusal (card c) (now .0) (asked change) ≡ some (record { number = x .number; detail = x .detail })
 refused-call c now change v x r e g = go (refusal (card c) (now .0) (asked change)) (sym g ∙ e ∙ judged-card c now change r)
   where
     go : (o : Option Row) → Refuse x ≡ verdictOf o (placeNamed change (card c .vcpus)) → o ≡ some (record { number = x .number; detail = x .detail })
     go none f = let z : _≡_ {A = ℕ} 0 1 = cc in absurd (omega arith)
-    go (some y) f = let h : x ≡ record { number = y .number; detail = y .detail } = cc in ap (λ (u : Refusal). some (record { number = u .number; detail = u .detail })) (sym h)
+    go (some y) f = let h : x ≡ record { number = y .number; detail = y .detail } = cc in
+        ap (λ (u : Refusal). some (record { number = u .number; detail = u .detail })) (sym h)

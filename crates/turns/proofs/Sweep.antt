@@ -62,7 +62,8 @@ pub record Sweeping (now : Moment) (ids : List Tunnel) (n : ℕ) (p₀ p : List 
   pub most : i ≤ n
   pub few : n ≤ 32
 
-pub sweep-start : (now : Moment) (ids : List Tunnel) (n : ℕ) (p : List Vcpu) (vs : List Tenant) → now .0 ≤ largestTime → Filled p ids n vs → ValidTenants (now .0) vs → Sweeping now ids n p p 0
+pub sweep-start : (now : Moment) (ids : List Tunnel) (n : ℕ) (p : List Vcpu) (vs : List Tenant) → now .0 ≤ largestTime → Filled p ids n vs
+    → ValidTenants (now .0) vs → Sweeping now ids n p p 0
 sweep-start now ids n p vs h f r =
     let e : tenants n ids p ≡ vs = filled-tenants p ids n vs (r .few) (small (now .0) vs r) f in
     record {
@@ -87,7 +88,8 @@ module _ (now : Moment) (x : Tenant) (h : now .0 ≤ largestTime) (r : ValidTena
       record {
         written = sym (ap written bared ∙ rewritten);
         few = subst (λ (v : Tenant). length (v .pending) ≤ 8) (sym bared) (r .few);
-        fits = subst (λ (v : Tenant). v .usable + sum (λ e. e .amount) (v .pending) < 4294967296) (sym bared) (omega (arith, r .whole, r .terms .capacity, r .terms .period));
+        fits = subst (λ (v : Tenant). v .usable + sum (λ e. e .amount) (v .pending) < 4294967296) (sym bared) (omega
+            (arith, r .whole, r .terms .capacity, r .terms .period));
         time = omega arith;
       }
 
@@ -126,7 +128,8 @@ module _ (now : Moment) (ids : List Tunnel) (n : ℕ) (p₀ p : List Vcpu) (i : 
   next =
       ap (λ (k : ℕ). placesOf (upto (returned (now .0)) k (tenants n ids p₀))) (add-one i)
       ∙ ap placesOf (sym (upto-set (returned (now .0)) i (tenants n ids p₀) noTenant inside))
-      ∙ sym (laid-set written (written noTenant) 32 (upto (returned (now .0)) i (tenants n ids p₀)) i (returned (now .0) (getD (tenants n ids p₀) i noTenant)) reaches long)
+      ∙ sym (laid-set written (written noTenant) 32 (upto (returned (now .0)) i (tenants n ids p₀)) i (returned (now .0) (getD
+      (tenants n ids p₀) i noTenant)) reaches long)
       ∙ ap (λ (q : List Vcpu). set q i (written (returned (now .0) (getD (tenants n ids p₀) i noTenant)))) (sym (s .done))
 
   on : (q : List Vcpu) → q ≡ set p i (written (returned (now .0) (getD (tenants n ids p₀) i noTenant))) → Sweeping now ids n p₀ q (i + 1)
@@ -135,13 +138,15 @@ module _ (now : Moment) (ids : List Tunnel) (n : ℕ) (p₀ p : List Vcpu) (i : 
   pub sweep-due : Sweeping now ids n p₀ (set p i (written (returned (now .0) (bare (getD p i z))))) (i + 1)
   sweep-due =
       on (set p i (written (returned (now .0) (bare (getD p i z)))))
-      (ap (λ (v : Vcpu). set p i (written (returned (now .0) (bare v)))) read ∙ ap (set p i) (returned-bare now (getD (tenants n ids p₀) i noTenant) (s .time) sound))
+      (ap (λ (v : Vcpu). set p i (written (returned (now .0) (bare v)))) read ∙ ap (set p i) (returned-bare now (getD (tenants n ids p₀) i noTenant)
+      (s .time) sound))
 
   pub sweep-rests : not (ltb (now .0) (headOf (getD p i z))) ≡ false → Sweeping now ids n p₀ p (i + 1)
   sweep-rests e =
       on p
       (sym (set-getD p i z)
-      ∙ ap (set p i) (read ∙ ap written (sym (rests now (getD (tenants n ids p₀) i noTenant) (s .time) sound (ap (λ (v : Vcpu). not (ltb (now .0) (headOf v))) (sym read) ∙ e)))))
+      ∙ ap (set p i) (read ∙ ap written (sym (rests now (getD (tenants n ids p₀) i noTenant) (s .time) sound (ap (λ (v : Vcpu). not (ltb (now .0)
+      (headOf v))) (sym read) ∙ e)))))
 
 ids-kept : (now k : ℕ) (z : Tunnel) (vs : List Tenant) → laid k tunnelOf z (bring now vs) ≡ laid k tunnelOf z vs
 unfolding laid
@@ -150,7 +155,8 @@ ids-kept now (suc k) z [] = refl
 ids-kept now (suc k) z (v ∷ vs) = ap (λ (r : List Tunnel). tunnelOf v ∷ r) (ids-kept now k z vs)
 
 -- when it is done
-module _ (now : Moment) (ids : List Tunnel) (n : ℕ) (p₀ p : List Vcpu) (i : ℕ) (s : Sweeping now ids n p₀ p i) (h : n ≤ i) (vs : List Tenant) (f : Filled p₀ ids n vs) (r : ValidTenants (now .0) vs) where
+module _ (now : Moment) (ids : List Tunnel) (n : ℕ) (p₀ p : List Vcpu) (i : ℕ) (s : Sweeping now ids n p₀ p i) (h : n ≤ i) (vs : List Tenant)
+    (f : Filled p₀ ids n vs) (r : ValidTenants (now .0) vs) where
   all : tenants n ids p₀ ≡ vs
   all = filled-tenants p₀ ids n vs (r .few) (small (now .0) vs r) f
 

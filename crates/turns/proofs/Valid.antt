@@ -54,7 +54,8 @@ module _ {A : Type 0} where
       go false rec = omega arith
 
 -- an entry changed at the end of a queue: more ticks, and a time no earlier than its own and no later than the bound
-module _ (f : Entry → Entry) (b d : ℕ) (up : (e : Entry) → e .due ≤ b → e .due ≤ f e .due) (near : (e : Entry) → e .due ≤ b → f e .due ≤ b) (adds : (e : Entry) → f e .amount ≡ e .amount + d) where
+module _ (f : Entry → Entry) (b d : ℕ) (up : (e : Entry) → e .due ≤ b → e .due ≤ f e .due) (near : (e : Entry) → e .due ≤ b → f e .due ≤ b) (adds :
+    (e : Entry) → f e .amount ≡ e .amount + d) where
   last-sum : (q : List Entry) → 0 < length q → sum (λ e. e .amount) (toLast f q) ≡ sum (λ e. e .amount) q + d
   last-sum [] h = absurd (omega arith)
   last-sum (e ∷ []) h = omega (arith, adds e)
@@ -154,10 +155,18 @@ pub charged-valid : (last now : ℕ) (v : Tenant) → ValidTenant last v → las
 unfolding charged
 charged-valid last now v r h g = go (eqb (now - last) 0)
   where
-    go : (t : Bool) → ValidTenant now (cond t v (record { terms = v .terms; runnable = v .runnable; usable = v .usable - (now - last); ended = now; pending = posted last (now - last) v }))
+    go : (t : Bool) → ValidTenant now (cond t v (record {
+      terms = v .terms;
+      runnable = v .runnable;
+      usable = v .usable -
+          (now - last);
+      ended = now;
+      pending = posted last (now - last) v;
+    }))
     go true = tenant-later last now v h r
     go false =
-        let q : Queue (last + v .terms .period) (sum (λ e. e .amount) (v .pending) + (now - last)) (posted last (now - last) v) = posted-queue last (now - last) v r in
+        let q : Queue (last + v .terms .period) (sum (λ e. e .amount) (v .pending) + (now - last)) (posted last (now - last) v) = posted-queue last
+        (now - last) v r in
         record {
           terms = r .terms;
           few = q .few;
@@ -171,7 +180,14 @@ pub charged-terms : (last now : ℕ) (v : Tenant) → charged last now v .terms 
 unfolding charged
 charged-terms last now v = go (eqb (now - last) 0)
   where
-    go : (t : Bool) → (cond t v (record { terms = v .terms; runnable = v .runnable; usable = v .usable - (now - last); ended = now; pending = posted last (now - last) v })) .terms ≡ v .terms
+    go : (t : Bool) → (cond t v (record {
+      terms = v .terms;
+      runnable = v .runnable;
+      usable = v .usable -
+          (now - last);
+      ended = now;
+      pending = posted last (now - last) v;
+    })) .terms ≡ v .terms
     go true = refl
     go false = refl
 
@@ -230,7 +246,8 @@ tenants-later last now vs h r =
       distinct = r .distinct;
     }
 
-pub tenants-set : (now i : ℕ) (z x : Tenant) (vs : List Tenant) → x .terms ≡ getD vs i z .terms → ValidTenant now x → ValidTenants now vs → ValidTenants now (set vs i x)
+pub tenants-set : (now i : ℕ) (z x : Tenant) (vs : List Tenant) → x .terms ≡ getD vs i z .terms → ValidTenant now x → ValidTenants now vs
+    → ValidTenants now (set vs i x)
 tenants-set now i z x vs e h r =
     record {
       few = omega (arith, length-set vs i x, r .few);
@@ -289,7 +306,8 @@ pub absent : (t : ℕ) (vs : List Tenant) → onCard t vs ≡ false → All (λ 
 absent t [] e = tt
 absent t (v ∷ vs) e = (eqb-false (v .terms .tunnel) t (or-false (named t v) (onCard t vs) e .0), absent t vs (or-false (named t v) (onCard t vs) e .1))
 
-placed-distinct : (a : Tenant) (vs : List Tenant) → All (λ e. e .tunnel ≡ a .terms .tunnel → ⊥) (termsOf vs) → Distinct (termsOf vs) → Distinct (termsOf (placed a vs))
+placed-distinct : (a : Tenant) (vs : List Tenant) → All (λ e. e .tunnel ≡ a .terms .tunnel → ⊥) (termsOf vs) → Distinct (termsOf vs) → Distinct
+    (termsOf (placed a vs))
 placed-distinct a [] h d = (tt, tt)
 placed-distinct a (w ∷ ws) h d = go (moreUrgent (a .terms) (w .terms)) (placed-distinct a ws (h .1) (d .1))
   where
@@ -297,7 +315,8 @@ placed-distinct a (w ∷ ws) h d = go (moreUrgent (a .terms) (w .terms)) (placed
     go true rec = (h, d)
     go false rec = (placed-terms (λ e. e .tunnel ≡ w .terms .tunnel → ⊥) a ws (λ e. h .0 (sym e)) (d .0), rec)
 
-placed-ranked : (a : Tenant) (vs : List Tenant) → All (λ e. e .tunnel ≡ a .terms .tunnel → ⊥) (termsOf vs) → Ranked (termsOf vs) → Ranked (termsOf (placed a vs))
+placed-ranked : (a : Tenant) (vs : List Tenant) → All (λ e. e .tunnel ≡ a .terms .tunnel → ⊥) (termsOf vs) → Ranked (termsOf vs) → Ranked (termsOf
+    (placed a vs))
 placed-ranked a [] h r = (tt, tt)
 placed-ranked a (w ∷ ws) h r = go (moreUrgent (a .terms) (w .terms)) refl (placed-ranked a ws (h .1) (r .1))
   where

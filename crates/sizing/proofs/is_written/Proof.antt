@@ -1,4 +1,4 @@
--- `is_written` lends the part of the array that waits. Assumes nothing.
+-- `is_written` lends the part of the bytes that waits. Assumes nothing.
 use lib.Seq.{length-take-le}
 use native.Mathlib.Omega.{arith}
 use mathlib.Core.Path.{sym}
@@ -7,7 +7,7 @@ use Rattle.sizing.proofs.is_written.Statement.{statement}
 use Rattle.sizing.proofs.is_written.Tie as tie
 
 slice-aggregate-write-all : tie.Need-slice-aggregate-write-all
-slice-aggregate-write-all c = sym (length-take-le (c .before .before .args .pending) (c .before .before .args .out .now) (omega arith))
+slice-aggregate-write-all c = sym (length-take-le (c .before .before .args .count) (c .before .before .args .out .now) (omega arith))
 
 write-all-requires : tie.Need-write-all-requires
 write-all-requires c κs = search needs

@@ -6,13 +6,16 @@ use Rattle.sizing.proofs.main.Statement.{statement}
 use Rattle.sizing.proofs.main.Tie as tie
 
 abbrev Inv-loop : tie.InvT-loop
-Inv-loop input₀ out₀ line₀ turns₀ input out line turns = 65536 ≡ length input
+Inv-loop input₀ out₀ line₀ turns₀ input out line turns = (65536 ≡ length input) × (4096 ≡ length out)
 
 abbrev μ-loop : tie.MeasureT-loop
 μ-loop input₀ out₀ line₀ turns₀ input out line turns = turns
 
 large-buffer-requires : tie.Need-large-buffer-requires Inv-loop μ-loop
 large-buffer-requires c κs = search needs
+
+buffer-requires : tie.Need-buffer-requires Inv-loop μ-loop
+buffer-requires c κs = search needs
 
 start-requires : tie.Need-start-requires Inv-loop μ-loop
 start-requires c κs = search needs
@@ -22,6 +25,9 @@ loop-holds c = search needs
 
 slice-aggregate-turned : tie.Need-slice-aggregate-turned Inv-loop μ-loop
 slice-aggregate-turned c = search needs
+
+slice-aggregate-turned-2 : tie.Need-slice-aggregate-turned-2 Inv-loop μ-loop
+slice-aggregate-turned-2 c = search needs
 
 turned-requires : tie.Need-turned-requires Inv-loop μ-loop
 turned-requires c κs = search needs
@@ -48,9 +54,11 @@ main-spec =
     Inv-loop
     μ-loop
     large-buffer-requires
+    buffer-requires
     start-requires
     loop-holds
     slice-aggregate-turned
+    slice-aggregate-turned-2
     turned-requires
     returns
     sub-turns

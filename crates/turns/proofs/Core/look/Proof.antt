@@ -21,7 +21,9 @@ vacant-requires : tie.Need-vacant-requires
 vacant-requires c κs = search needs
 
 returns : tie.Need-returns
-returns c = ap (λ (v : Vcpu). record { there = false; vcpu = v }) (c .vacant .ensures) ∙ ap looked (sym (wide-none (c .before .before .before .args .self) (c .before .before .before .pre) (c .before .before .before .args .id .0) (ltb-true largestTunnel (c .before .before .before .args .id .0) (ap (ltb largestTunnel) (sym (c .before .before .number .ensures)) ∙ c .before .if1 .taken))))
+returns c = ap (λ (v : Vcpu). record { there = false; vcpu = v }) (c .vacant .ensures) ∙ ap looked (sym (wide-none
+    (c .before .before .before .args .self) (c .before .before .before .pre) (c .before .before .before .args .id .0) (ltb-true largestTunnel
+    (c .before .before .before .args .id .0) (ap (ltb largestTunnel) (sym (c .before .before .number .ensures)) ∙ c .before .if1 .taken))))
 
 find-requires : tie.Need-find-requires
 find-requires c κs = search needs
@@ -33,13 +35,29 @@ array-copy-out-vcpu : tie.Need-array-copy-out-vcpu
 array-copy-out-vcpu c = search needs
 
 returns-2 : tie.Need-returns-2
-returns-2 c = ap (λ (v : Vcpu). record { there = true; vcpu = v }) (ap (λ (i : ℕ). getD (c .before .before .before .before .before .before .before .args .self .places) i unread) (c .before .before .before .find .ensures) ∙ (look-there (c .before .before .before .before .before .before .before .args .self) (c .before .before .before .before .before .before .before .pre) (c .before .before .before .before .before .before .before .args .id .0) unread (ltb-false largestTunnel (c .before .before .before .before .before .before .before .args .id .0) (ap (ltb largestTunnel) (sym (c .before .before .before .before .before .before .number .ensures)) ∙ c .before .before .before .before .before .if1 .left)) (subst (λ (k : ℕ). k < 32) (c .before .before .before .find .ensures) (c .before .before .if2 .taken))) .1) ∙ ap looked (sym ((look-there (c .before .before .before .before .before .before .before .args .self) (c .before .before .before .before .before .before .before .pre) (c .before .before .before .before .before .before .before .args .id .0) unread (ltb-false largestTunnel (c .before .before .before .before .before .before .before .args .id .0) (ap (ltb largestTunnel) (sym (c .before .before .before .before .before .before .number .ensures)) ∙ c .before .before .before .before .before .if1 .left)) (subst (λ (k : ℕ). k < 32) (c .before .before .before .find .ensures) (c .before .before .if2 .taken))) .0))
+returns-2 c = ap (λ (v : Vcpu). record { there = true; vcpu = v }) (ap (λ (i : ℕ). getD
+    (c .before .before .before .before .before .before .before .args .self .places) i unread) (c .before .before .before .find .ensures) ∙
+    (look-there (c .before .before .before .before .before .before .before .args .self)
+    (c .before .before .before .before .before .before .before .pre) (c .before .before .before .before .before .before .before .args .id .0) unread
+    (ltb-false largestTunnel (c .before .before .before .before .before .before .before .args .id .0) (ap (ltb largestTunnel) (sym
+    (c .before .before .before .before .before .before .number .ensures)) ∙ c .before .before .before .before .before .if1 .left)) (subst (λ
+    (k : ℕ). k < 32) (c .before .before .before .find .ensures) (c .before .before .if2 .taken))) .1) ∙ ap looked (sym ((look-there
+    (c .before .before .before .before .before .before .before .args .self) (c .before .before .before .before .before .before .before .pre)
+    (c .before .before .before .before .before .before .before .args .id .0) unread (ltb-false largestTunnel
+    (c .before .before .before .before .before .before .before .args .id .0) (ap (ltb largestTunnel) (sym
+    (c .before .before .before .before .before .before .number .ensures)) ∙ c .before .before .before .before .before .if1 .left)) (subst (λ
+    (k : ℕ). k < 32) (c .before .before .before .find .ensures) (c .before .before .if2 .taken))) .0))
 
 vacant-requires-2 : tie.Need-vacant-requires-2
 vacant-requires-2 c κs = search needs
 
 returns-3 : tie.Need-returns-3
-returns-3 c = ap (λ (v : Vcpu). record { there = false; vcpu = v }) (c .vacant2 .ensures) ∙ ap looked (sym (look-absent (c .before .before .before .before .before .before .args .self) (c .before .before .before .before .before .before .pre) (c .before .before .before .before .before .before .args .id .0) (ltb-false largestTunnel (c .before .before .before .before .before .before .args .id .0) (ap (ltb largestTunnel) (sym (c .before .before .before .before .before .number .ensures)) ∙ c .before .before .before .before .if1 .left)) (subst (λ (k : ℕ). 32 ≤ k) (c .before .before .find .ensures) (c .before .if2 .left))))
+returns-3 c = ap (λ (v : Vcpu). record { there = false; vcpu = v }) (c .vacant2 .ensures) ∙ ap looked (sym (look-absent
+    (c .before .before .before .before .before .before .args .self) (c .before .before .before .before .before .before .pre)
+    (c .before .before .before .before .before .before .args .id .0) (ltb-false largestTunnel
+    (c .before .before .before .before .before .before .args .id .0) (ap (ltb largestTunnel) (sym
+    (c .before .before .before .before .before .number .ensures)) ∙ c .before .before .before .before .if1 .left)) (subst (λ (k : ℕ). 32 ≤ k)
+    (c .before .before .find .ensures) (c .before .if2 .left))))
 
 pub look-spec : {M : Type 1} → statement M
 look-spec =

@@ -12,7 +12,8 @@ timer-of-requires : tie.Need-timer-of-requires
 timer-of-requires c κs = search needs
 
 returns : tie.Need-returns
-returns c = status-shown (c .before .before .before .before .before .args .self) (c .before .before .before .before .before .pre) (c .before .holder .result) (c .before .holder .ensures) (c .timer-of .result) (c .timer-of .ensures)
+returns c = status-shown (c .before .before .before .before .before .args .self) (c .before .before .before .before .before .pre)
+    (c .before .holder .result) (c .before .holder .ensures) (c .timer-of .result) (c .timer-of .ensures)
 
 pub status-spec : {M : Type 1} → statement M
 status-spec = tie.close (tie.spec holder-requires timer-of-requires returns)

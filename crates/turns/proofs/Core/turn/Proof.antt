@@ -74,7 +74,8 @@ valid : (c : P) → ValidCore (core c)
 valid c = c .before .before .before .before .before .before .before .pre
 
 accept : (c : P) → (refusal (card (core c)) (moment-of c .0) (asked (change-of c)) ≡ none) × (at-of c ≡ placeNamed (change-of c) (card (core c) .vcpus))
-accept c = accepted-call (core c) (moment-of c) (change-of c) (c .before .before .before .before .judged .result) (at-of c) (valid c) (c .before .before .before .before .judged .ensures) (c .before .before .verdict .given .1)
+accept c = accepted-call (core c) (moment-of c) (change-of c) (c .before .before .before .before .judged .result) (at-of c) (valid c)
+    (c .before .before .before .before .judged .ensures) (c .before .before .verdict .given .1)
 
 meets : (c : P) → Met (card (core c)) (moment-of c .0) (change-of c)
 meets c = met (card (core c)) (moment-of c .0) (change-of c) (accept c .0)
@@ -95,10 +96,12 @@ record Table (c : P) (p : List Vcpu) (ids : List Tunnel) (n : ℕ) (vs : List Te
   good : ValidTenants (moment-of c .0) vs
 
 charged-here : (c : P) (z : Vcpu) → core c .running < core c .n
-    → Table c (set (core c .places) (core c .running) (chargedOf (getD (core c .places) (core c .running) z) (core c .last) (moment-of c))) (core c .ids) (core c .n) (afterCharge (card (core c)) (moment-of c .0))
+    → Table c (set (core c .places) (core c .running) (chargedOf (getD (core c .places) (core c .running) z) (core c .last) (moment-of c)))
+    (core c .ids) (core c .n) (afterCharge (card (core c)) (moment-of c .0))
 charged-here c z h = go (holds (core c) (valid c))
   where
-    go : Holds (core c) → Table c (set (core c .places) (core c .running) (chargedOf (getD (core c .places) (core c .running) z) (core c .last) (moment-of c))) (core c .ids) (core c .n) (afterCharge (card (core c)) (moment-of c .0))
+    go : Holds (core c) → Table c (set (core c .places) (core c .running) (chargedOf (getD (core c .places) (core c .running) z) (core c .last)
+        (moment-of c))) (core c .ids) (core c .n) (afterCharge (card (core c)) (moment-of c .0))
     go (held w r) =
         record {
           filled = charge-filled (core c) (valid c) (moment-of c) (change-of c) (meets c) w r z;
@@ -117,12 +120,15 @@ nobody-charged c h = go (holds (core c) (valid c))
           good = idle-valid (core c) (valid c) (moment-of c) (change-of c) (meets c) e;
         }
 
-after-charge : (c : tie.Joined1 Inv-loop μ-loop Inv-loop2 μ-loop2) → Table (c .before) (c .if1 .p) (core (c .before) .ids) (core (c .before) .n) (afterCharge (card (core (c .before))) (moment-of (c .before) .0))
+after-charge : (c : tie.Joined1 Inv-loop μ-loop Inv-loop2 μ-loop2) → Table (c .before) (c .if1 .p) (core (c .before) .ids) (core (c .before) .n)
+    (afterCharge (card (core (c .before))) (moment-of (c .before) .0))
 after-charge c =
     ⊎-elim
-    (λ w. subst (λ (p : List Vcpu). Table (c .before) p (core (c .before) .ids) (core (c .before) .n) (afterCharge (card (core (c .before))) (moment-of (c .before) .0)))
+    (λ w. subst (λ (p : List Vcpu). Table (c .before) p (core (c .before) .ids) (core (c .before) .n) (afterCharge (card (core (c .before)))
+    (moment-of (c .before) .0)))
     (sym (w .3 ∙ ap (set (core (c .before) .places) (core (c .before) .running)) (w .2 .ensures))) (charged-here (c .before) unread (w .0 .taken)))
-    (λ w. subst (λ (p : List Vcpu). Table (c .before) p (core (c .before) .ids) (core (c .before) .n) (afterCharge (card (core (c .before))) (moment-of (c .before) .0)))
+    (λ w. subst (λ (p : List Vcpu). Table (c .before) p (core (c .before) .ids) (core (c .before) .n) (afterCharge (card (core (c .before)))
+    (moment-of (c .before) .0)))
     (sym (w .1)) (nobody-charged (c .before) (w .0 .left)))
     (c .if1 .came)
 
@@ -136,11 +142,16 @@ now-of c = moment-of (c .before .before .before) .0
 abbrev card-of : L → Card
 card-of c = card (core (c .before .before .before))
 
-after-return : (c : L) → Table (c .before .before .before) (c .before .loop .p) (core (c .before .before .before) .ids) (core (c .before .before .before) .n) (afterReturn (card-of c) (now-of c))
+after-return : (c : L) → Table (c .before .before .before) (c .before .loop .p) (core (c .before .before .before) .ids) (core
+    (c .before .before .before) .n) (afterReturn (card-of c) (now-of c))
 after-return c =
     record {
-      filled = sweep-filled (moment-of (c .before .before .before)) (core (c .before .before .before) .ids) (core (c .before .before .before) .n) (c .before .before .if1 .p) (c .before .loop .p) (c .before .loop .i) (c .before .loop .inv) (c .loop-test .left) (afterCharge (card-of c) (now-of c)) (after-charge (c .before .before) .filled) (after-charge (c .before .before) .good);
-      good = sweep-valid (moment-of (c .before .before .before)) (core (c .before .before .before) .ids) (core (c .before .before .before) .n) (c .before .before .if1 .p) (c .before .loop .p) (c .before .loop .i) (c .before .loop .inv) (c .loop-test .left) (afterCharge (card-of c) (now-of c)) (after-charge (c .before .before) .filled) (after-charge (c .before .before) .good);
+      filled = sweep-filled (moment-of (c .before .before .before)) (core (c .before .before .before) .ids) (core (c .before .before .before) .n)
+          (c .before .before .if1 .p) (c .before .loop .p) (c .before .loop .i) (c .before .loop .inv) (c .loop-test .left) (afterCharge (card-of c)
+          (now-of c)) (after-charge (c .before .before) .filled) (after-charge (c .before .before) .good);
+      good = sweep-valid (moment-of (c .before .before .before)) (core (c .before .before .before) .ids) (core (c .before .before .before) .n)
+          (c .before .before .if1 .p) (c .before .loop .p) (c .before .loop .i) (c .before .loop .inv) (c .loop-test .left) (afterCharge (card-of c)
+          (now-of c)) (after-charge (c .before .before) .filled) (after-charge (c .before .before) .good);
     }
 
 -- the rules' list after the change
@@ -157,35 +168,49 @@ rows-of : (c : L) → callRows (card-of c .vcpus) (asked (change-of (c .before .
 rows-of c = meets (c .before .before .before) .rows
 
 good-after : (c : L) → ValidTenants (now-of c) (changed-of c (change-of (c .before .before .before)))
-good-after c = change-valid (card-of c) (now-of c) (c .before .loop .p) (ids-of c) (n-of c) (after-return c .filled) (after-return c .good) (change-of (c .before .before .before)) (rows-of c)
+good-after c = change-valid (card-of c) (now-of c) (c .before .loop .p) (ids-of c) (n-of c) (after-return c .filled) (after-return c .good)
+    (change-of (c .before .before .before)) (rows-of c)
 
 is-fresh : (c : L) (d : Description) → change-of (c .before .before .before) ≡ Admit d → Fresh (afterReturn (card-of c) (now-of c)) d
-is-fresh c d e = fresh-after (card-of c) (now-of c) (c .before .loop .p) (ids-of c) (n-of c) (after-return c .filled) (after-return c .good) d (subst (λ (x : Change). callRows (card-of c .vcpus) (asked x) ≡ none) e (rows-of c))
+is-fresh c d e = fresh-after (card-of c) (now-of c) (c .before .loop .p) (ids-of c) (n-of c) (after-return c .filled) (after-return c .good) d
+    (subst (λ (x : Change). callRows (card-of c .vcpus) (asked x) ≡ none) e (rows-of c))
 
-spot-small : (c : L) (d : Description) → change-of (c .before .before .before) ≡ Admit d → spotIn (rankOf (d .priority) (d .tunnel .0)) (n-of c) (c .before .loop .p) (ids-of c) ≤ 32
-spot-small c d e = spot-fits (c .before .loop .p) (ids-of c) (n-of c) (afterReturn (card-of c) (now-of c)) (now-of c) (after-return c .filled) (after-return c .good) d (is-fresh c d e)
+spot-small : (c : L) (d : Description) → change-of (c .before .before .before) ≡ Admit d → spotIn (rankOf (d .priority) (d .tunnel .0)) (n-of c)
+    (c .before .loop .p) (ids-of c) ≤ 32
+spot-small c d e = spot-fits (c .before .loop .p) (ids-of c) (n-of c) (afterReturn (card-of c) (now-of c)) (now-of c) (after-return c .filled)
+    (after-return c .good) d (is-fresh c d e)
 
 admitted-there : (c : L) (d : Description) → change-of (c .before .before .before) ≡ Admit d
-    → Filled (inserted (spotIn (rankOf (d .priority) (d .tunnel .0)) (n-of c) (c .before .loop .p) (ids-of c)) (written (admitted (described d))) (c .before .loop .p))
-    (inserted (spotIn (rankOf (d .priority) (d .tunnel .0)) (n-of c) (c .before .loop .p) (ids-of c)) (d .tunnel) (ids-of c)) (n-of c + 1) (changed-of c (change-of (c .before .before .before)))
+    → Filled (inserted (spotIn (rankOf (d .priority) (d .tunnel .0)) (n-of c) (c .before .loop .p) (ids-of c)) (written (admitted (described d)))
+    (c .before .loop .p))
+    (inserted (spotIn (rankOf (d .priority) (d .tunnel .0)) (n-of c) (c .before .loop .p) (ids-of c)) (d .tunnel) (ids-of c)) (n-of c + 1)
+    (changed-of c (change-of (c .before .before .before)))
 admitted-there c d e =
-    subst (λ (x : Change). Filled (inserted (spotIn (rankOf (d .priority) (d .tunnel .0)) (n-of c) (c .before .loop .p) (ids-of c)) (written (admitted (described d))) (c .before .loop .p))
-    (inserted (spotIn (rankOf (d .priority) (d .tunnel .0)) (n-of c) (c .before .loop .p) (ids-of c)) (d .tunnel) (ids-of c)) (n-of c + 1) (changed-of c x)) (sym e)
-    (admit-filled (c .before .loop .p) (ids-of c) (n-of c) (afterReturn (card-of c) (now-of c)) (now-of c) (after-return c .filled) (after-return c .good) d (is-fresh c d e))
+    subst (λ (x : Change). Filled (inserted (spotIn (rankOf (d .priority) (d .tunnel .0)) (n-of c) (c .before .loop .p) (ids-of c)) (written
+    (admitted (described d))) (c .before .loop .p))
+    (inserted (spotIn (rankOf (d .priority) (d .tunnel .0)) (n-of c) (c .before .loop .p) (ids-of c)) (d .tunnel) (ids-of c)) (n-of c + 1)
+    (changed-of c x)) (sym e)
+    (admit-filled (c .before .loop .p) (ids-of c) (n-of c) (afterReturn (card-of c) (now-of c)) (now-of c) (after-return c .filled)
+    (after-return c .good) d (is-fresh c d e))
 
 -- the place named by a remove
 named-there : (c : L) (t : Tunnel) → change-of (c .before .before .before) ≡ Remove t
-    → (at-of (c .before .before .before) ≡ place (t .0) (afterReturn (card-of c) (now-of c))) × (place (t .0) (afterReturn (card-of c) (now-of c)) < length (afterReturn (card-of c) (now-of c)))
+    → (at-of (c .before .before .before) ≡ place (t .0) (afterReturn (card-of c) (now-of c))) × (place (t .0) (afterReturn (card-of c)
+    (now-of c)) < length (afterReturn (card-of c) (now-of c)))
 named-there c t e = (
   accept (c .before .before .before) .1 ∙ ap (λ (x : Change). placeNamed x (card-of c .vcpus)) e ∙ sym (return-place (card-of c) (now-of c) (t .0)),
-  named-place (card-of c) (now-of c) (c .before .loop .p) (ids-of c) (n-of c) (after-return c .filled) (after-return c .good) (t .0) (subst (λ (x : Change). callRows (card-of c .vcpus) (asked x) ≡ none) e (rows-of c)),
+  named-place (card-of c) (now-of c) (c .before .loop .p) (ids-of c) (n-of c) (after-return c .filled) (after-return c .good) (t .0) (subst (λ
+      (x : Change). callRows (card-of c .vcpus) (asked x) ≡ none) e (rows-of c)),
 )
 
 removed-there : (c : L) (t : Tunnel) → change-of (c .before .before .before) ≡ Remove t
-    → Filled (removed (at-of (c .before .before .before)) (written noTenant) (c .before .loop .p)) (removed (at-of (c .before .before .before)) (tunnel nobody) (ids-of c)) (n-of c - 1) (changed-of c (change-of (c .before .before .before)))
+    → Filled (removed (at-of (c .before .before .before)) (written noTenant) (c .before .loop .p)) (removed (at-of (c .before .before .before))
+    (tunnel nobody) (ids-of c)) (n-of c - 1) (changed-of c (change-of (c .before .before .before)))
 removed-there c t e =
-    subst (λ (x : Change). Filled (removed (at-of (c .before .before .before)) (written noTenant) (c .before .loop .p)) (removed (at-of (c .before .before .before)) (tunnel nobody) (ids-of c)) (n-of c - 1) (changed-of c x)) (sym e)
-    (remove-filled (c .before .loop .p) (ids-of c) (n-of c) (afterReturn (card-of c) (now-of c)) (now-of c) (after-return c .filled) (after-return c .good) (t .0) (at-of (c .before .before .before)) (named-there c t e .0) (named-there c t e .1))
+    subst (λ (x : Change). Filled (removed (at-of (c .before .before .before)) (written noTenant) (c .before .loop .p)) (removed (at-of
+    (c .before .before .before)) (tunnel nobody) (ids-of c)) (n-of c - 1) (changed-of c x)) (sym e)
+    (remove-filled (c .before .loop .p) (ids-of c) (n-of c) (afterReturn (card-of c) (now-of c)) (now-of c) (after-return c .filled)
+    (after-return c .good) (t .0) (at-of (c .before .before .before)) (named-there c t e .0) (named-there c t e .1))
 
 at-small : (c : P) → at-of c < 32
 at-small c = omega (arith, accept c .1, place-small (card (core c) .vcpus) (change-of c) (valid c .card .tenants .few) (meets c .rows))
@@ -201,7 +226,8 @@ after-change : (c : M) → Filled (c .match2 .p) (c .match2 .ids) (c .match2 .n)
 after-change c =
     ⊎-elim
     (λ w. filled-as (c .match2 .p) _ (c .match2 .ids) _ (c .match2 .n) _ _
-    (w .10 ∙ w .6 .ensures ∙ ap (λ (v : Vcpu). inserted (w .3 .result) v (c .before .before .loop .p)) (w .4 .ensures) ∙ ap (λ (k : ℕ). inserted k (written (admitted (described (w .1 .given .0 .0)))) (c .before .before .loop .p)) (w .3 .ensures))
+    (w .10 ∙ w .6 .ensures ∙ ap (λ (v : Vcpu). inserted (w .3 .result) v (c .before .before .loop .p)) (w .4 .ensures) ∙ ap (λ (k : ℕ). inserted k
+    (written (admitted (described (w .1 .given .0 .0)))) (c .before .before .loop .p)) (w .3 .ensures))
     (w .8 ∙ w .7 .ensures ∙ ap (λ (k : ℕ). inserted k (w .1 .given .0 .0 .tunnel) (ids-of (c .before))) (w .3 .ensures))
     (w .9) (admitted-there (c .before) (w .1 .given .0 .0) (w .1 .given .1)))
     (⊎-elim
@@ -211,8 +237,10 @@ after-change c =
     (w .7) (removed-there (c .before) _ (w .1 .given .1)))
     (λ w. filled-as (c .match2 .p) _ (c .match2 .ids) _ (c .match2 .n) _ _
     (w .5 ∙ ap (set (c .before .before .loop .p) (at-of (c .before .before .before .before))) (w .2 .ensures)) (w .3) (w .4)
-    (plain-filled (card-of (c .before)) (now-of (c .before)) (c .before .before .loop .p) (ids-of (c .before)) (n-of (c .before)) (after-return (c .before) .filled) (after-return (c .before) .good)
-    (change-of (c .before .before .before .before)) (at-of (c .before .before .before .before)) unread (w .0 .keys3) (rows-of (c .before)) (accept (c .before .before .before .before) .1))))
+    (plain-filled (card-of (c .before)) (now-of (c .before)) (c .before .before .loop .p) (ids-of (c .before)) (n-of (c .before)) (after-return
+    (c .before) .filled) (after-return (c .before) .good)
+    (change-of (c .before .before .before .before)) (at-of (c .before .before .before .before)) unread (w .0 .keys3) (rows-of (c .before)) (accept
+    (c .before .before .before .before) .1))))
     (c .match2 .came)
 
 abbrev list-of : M → List Tenant
@@ -234,27 +262,71 @@ R = tie.After-timer-of Inv-loop μ-loop Inv-loop2 μ-loop2
 abbrev vs-of : R → List Tenant
 vs-of c = list-of (c .before .before .before .before .before .before .before .before)
 
-time-of : (c : R) → c .before .before .before .before .before .before .before .before .before .before .before .before .before .before .before .before .before .before .before .args .now .0 ≤ 1000000000000
+time-of : (c : R) → c .before .before .before .before .before .before .before .before .before .before .before .before .before .before .before .before
+    .before .before .before .args .now .0 ≤ 1000000000000
 time-of c = meets (c .before .before .before .before .before .before .before .before .before .before .before .before) .time
 
 picked-there : (c : R) → c .before .before .before .before .before .loop2 .pick ≡ pickFor never 0 (vs-of c) (choose (vs-of c))
 picked-there c =
-    sym (scan-end (c .before .before .before .before .before .loop2 .pick) (c .before .before .before .before .before .loop2 .j) (c .before .before .before .before .before .before .before .before .match2 .n) (c .before .before .before .before .before .before .before .before .match2 .p) (c .before .before .before .before .before .loop2 .inv .0) (c .before .before .before .before .loop2-test .left))
+    sym (scan-end (c .before .before .before .before .before .loop2 .pick) (c .before .before .before .before .before .loop2 .j)
+    (c .before .before .before .before .before .before .before .before .match2 .n)
+    (c .before .before .before .before .before .before .before .before .match2 .p) (c .before .before .before .before .before .loop2 .inv .0)
+    (c .before .before .before .before .loop2-test .left))
     ∙ c .before .before .before .before .before .loop2 .inv .3
-    ∙ ap (λ (u : Amount). picks (record { at = 32; usable = u; soon = c .before .before .before .before .before .before .new3 .result }) 0 (take (c .before .before .before .before .before .before .before .before .match2 .n) (c .before .before .before .before .before .before .before .before .match2 .p))) (c .before .before .before .before .before .before .before .new2 .ensures)
-    ∙ ap (λ (m : Moment). picks (record { at = 32; usable = amount 0; soon = m }) 0 (take (c .before .before .before .before .before .before .before .before .match2 .n) (c .before .before .before .before .before .before .before .before .match2 .p))) (c .before .before .before .before .before .before .new3 .ensures)
-    ∙ pick-found (c .before .before .before .before .before .before .before .before .before .before .before .before .before .before .before .before .before .before .before .args .now .0) (vs-of c) (time-of c) (good-there (c .before .before .before .before .before .before .before .before)) (c .before .before .before .before .before .before .before .before .match2 .p) (c .before .before .before .before .before .before .before .before .match2 .ids) (c .before .before .before .before .before .before .before .before .match2 .n) (after-change (c .before .before .before .before .before .before .before .before))
+    ∙ ap (λ (u : Amount). picks (record { at = 32; usable = u; soon = c .before .before .before .before .before .before .new3 .result }) 0 (take
+    (c .before .before .before .before .before .before .before .before .match2 .n)
+    (c .before .before .before .before .before .before .before .before .match2 .p)))
+    (c .before .before .before .before .before .before .before .new2 .ensures)
+    ∙ ap (λ (m : Moment). picks (record { at = 32; usable = amount 0; soon = m }) 0 (take
+    (c .before .before .before .before .before .before .before .before .match2 .n)
+    (c .before .before .before .before .before .before .before .before .match2 .p))) (c .before .before .before .before .before .before .new3 .ensures)
+    ∙ pick-found (c .before .before .before .before .before .before .before .before .before .before .before .before .before .before .before .before
+    .before .before .before .args .now .0) (vs-of c) (time-of c) (good-there
+    (c .before .before .before .before .before .before .before .before))
+    (c .before .before .before .before .before .before .before .before .match2 .p)
+    (c .before .before .before .before .before .before .before .before .match2 .ids)
+    (c .before .before .before .before .before .before .before .before .match2 .n) (after-change
+    (c .before .before .before .before .before .before .before .before))
 
 answered-there : (c : R)
     → _≡_ {A = Answer}
     (record {
-      core = record { places = c .before .before .before .before .before .before .before .before .match2 .p; last = c .before .before .before .before .before .before .before .before .before .before .before .before .before .before .before .before .before .before .before .args .now; ids = c .before .before .before .before .before .before .before .before .match2 .ids; timer = c .before .before .before .timer-at .result; running = c .before .before .before .before .before .loop2 .pick .at; n = c .before .before .before .before .before .before .before .before .match2 .n };
-      reply = Done (record { time = c .before .before .before .before .before .before .before .before .before .before .before .before .before .before .before .before .before .before .before .args .now; run = c .before .holder .result; usable = c .before .before .before .before .before .loop2 .pick .usable; timer = c .timer-of .result });
+      core = record {
+        places = c .before .before .before .before .before .before .before .before .match2 .p;
+        last = c .before .before .before .before
+            .before .before .before .before .before .before .before .before .before .before .before .before .before .before .before .args .now;
+        ids = c
+            .before .before .before .before .before .before .before .before .match2 .ids;
+        timer = c .before .before .before .timer-at .result;
+        running
+            = c .before .before .before .before .before .loop2 .pick .at;
+        n = c .before .before .before .before .before .before .before .before .match2 .n;
+      };
+      reply = Done (record {
+        time = c .before .before .before .before .before .before .before .before .before .before .before .before .before .before
+            .before .before .before .before .before .args .now;
+        run = c .before .holder .result;
+        usable = c .before .before .before .before .before
+            .loop2 .pick .usable;
+        timer = c .timer-of .result;
+      });
     })
-    (answerOf (record { reply = ok (report (settled (c .before .before .before .before .before .before .before .before .before .before .before .before .before .before .before .before .before .before .before .args .now .0) (vs-of c))); card = settled (c .before .before .before .before .before .before .before .before .before .before .before .before .before .before .before .before .before .before .before .args .now .0) (vs-of c) }))
+    (answerOf (record {
+      reply = ok (report (settled (c .before .before .before .before .before .before .before .before .before .before .before
+          .before .before .before .before .before .before .before .before .args .now .0) (vs-of c)));
+      card = settled
+          (c .before .before .before .before .before .before .before .before .before .before .before .before .before .before .before .before .before
+          .before .before .args .now .0) (vs-of c);
+    }))
 answered-there c =
-    answer-found (c .before .before .before .before .before .before .before .before .before .before .before .before .before .before .before .before .before .before .before .args .now) (vs-of c) (time-of c) (good-there (c .before .before .before .before .before .before .before .before)) (c .before .before .before .before .before .before .before .before .match2 .p) (c .before .before .before .before .before .before .before .before .match2 .ids) (c .before .before .before .before .before .before .before .before .match2 .n) (after-change (c .before .before .before .before .before .before .before .before)) (c .before .before .before .before .before .loop2 .pick) (picked-there c)
-    (c .before .before .before .timer-at .result) (c .before .before .before .timer-at .ensures) (c .before .holder .result) (c .before .holder .ensures) (c .timer-of .result) (c .timer-of .ensures)
+    answer-found (c .before .before .before .before .before .before .before .before .before .before .before .before .before .before .before .before
+    .before .before .before .args .now) (vs-of c) (time-of c) (good-there (c .before .before .before .before .before .before .before .before))
+    (c .before .before .before .before .before .before .before .before .match2 .p)
+    (c .before .before .before .before .before .before .before .before .match2 .ids)
+    (c .before .before .before .before .before .before .before .before .match2 .n) (after-change
+    (c .before .before .before .before .before .before .before .before)) (c .before .before .before .before .before .loop2 .pick) (picked-there c)
+    (c .before .before .before .timer-at .result) (c .before .before .before .timer-at .ensures) (c .before .holder .result)
+    (c .before .holder .ensures) (c .timer-of .result) (c .timer-of .ensures)
 
 judged-requires : tie.Need-judged-requires Inv-loop μ-loop Inv-loop2 μ-loop2
 judged-requires c κs = search needs
@@ -266,7 +338,16 @@ enum-known-verdict-2 : tie.Need-enum-known-verdict-2 Inv-loop μ-loop Inv-loop2 
 enum-known-verdict-2 c = search needs
 
 returns : tie.Need-returns Inv-loop μ-loop Inv-loop2 μ-loop2
-returns c = (turned-refused (c .before .before .before .before .before .before .args .self) (c .before .before .before .before .before .before .args .now) (c .before .before .before .before .before .before .args .change) (c .before .verdict2 .given .0 .0) (c .before .before .before .before .before .before .pre) (refused-call (c .before .before .before .before .before .before .args .self) (c .before .before .before .before .before .before .args .now) (c .before .before .before .before .before .before .args .change) (c .before .before .before .judged .result) (c .before .verdict2 .given .0 .0) (c .before .before .before .before .before .before .pre) (c .before .before .before .judged .ensures) (c .before .verdict2 .given .1)), c .before .before .before .before .before .before .pre)
+returns c = (
+  turned-refused (c .before .before .before .before .before .before .args .self)
+      (c .before .before .before .before .before .before .args .now) (c .before .before .before .before .before .before .args .change)
+      (c .before .verdict2 .given .0 .0) (c .before .before .before .before .before .before .pre) (refused-call
+      (c .before .before .before .before .before .before .args .self) (c .before .before .before .before .before .before .args .now)
+      (c .before .before .before .before .before .before .args .change) (c .before .before .before .judged .result) (c .before .verdict2 .given .0 .0)
+      (c .before .before .before .before .before .before .pre) (c .before .before .before .judged .ensures)
+      (c .before .verdict2 .given .1)),
+  c .before .before .before .before .before .before .pre,
+)
 
 mul-v : tie.Need-mul-v Inv-loop μ-loop Inv-loop2 μ-loop2
 mul-v c = omega (arith, few (c .before))
@@ -284,7 +365,8 @@ array-set-from-p : tie.Need-array-set-from-p Inv-loop μ-loop Inv-loop2 μ-loop2
 array-set-from-p c = omega (arith, few (c .before .before .before))
 
 loop-holds : tie.Need-loop-holds Inv-loop μ-loop Inv-loop2 μ-loop2
-loop-holds c = sweep-start (moment-of (c .before)) (core (c .before) .ids) (core (c .before) .n) (c .if1 .p) (afterCharge (card (core (c .before))) (moment-of (c .before) .0)) (meets (c .before) .time) (after-charge c .filled) (after-charge c .good)
+loop-holds c = sweep-start (moment-of (c .before)) (core (c .before) .ids) (core (c .before) .n) (c .if1 .p) (afterCharge (card (core (c .before)))
+    (moment-of (c .before) .0)) (meets (c .before) .time) (after-charge c .filled) (after-charge c .good)
 
 mul-v-2 : tie.Need-mul-v-2 Inv-loop μ-loop Inv-loop2 μ-loop2
 mul-v-2 c = search needs
@@ -296,7 +378,11 @@ due-by-requires : tie.Need-due-by-requires Inv-loop μ-loop Inv-loop2 μ-loop2
 due-by-requires c κs = search needs
 
 returned-requires : tie.Need-returned-requires Inv-loop μ-loop Inv-loop2 μ-loop2
-returned-requires c κs = sweep-asks (c .before .before .before .before .before .before .before .before .before .before .before .before .before .args .now) (c .before .before .before .before .before .before .before .before .before .before .before .before .before .args .self .ids) (c .before .before .before .before .before .before .before .before .before .before .before .before .before .args .self .n) (c .before .before .before .before .before .if1 .p) (c .before .before .before .before .loop .p) (c .before .before .before .before .loop .i) (c .before .before .before .before .loop .inv) (c .before .before .before .loop-test .taken) unread
+returned-requires c κs = sweep-asks (c .before .before .before .before .before .before .before .before .before .before .before .before .before .args
+    .now) (c .before .before .before .before .before .before .before .before .before .before .before .before .before .args .self .ids)
+    (c .before .before .before .before .before .before .before .before .before .before .before .before .before .args .self .n)
+    (c .before .before .before .before .before .if1 .p) (c .before .before .before .before .loop .p) (c .before .before .before .before .loop .i)
+    (c .before .before .before .before .loop .inv) (c .before .before .before .loop-test .taken) unread
 
 mul-p-2 : tie.Need-mul-p-2 Inv-loop μ-loop Inv-loop2 μ-loop2
 mul-p-2 c = search needs
@@ -312,12 +398,27 @@ loop-less c = search needs
 
 loop-again : tie.Need-loop-again Inv-loop μ-loop Inv-loop2 μ-loop2
 loop-again c = ⊎-elim
-    (λ w. subst (λ (q : List Vcpu). Sweeping (c .before .before .before .before .before .before .before .before .before .before .before .before .before .args .now) (c .before .before .before .before .before .before .before .before .before .before .before .before .before .args .self .ids) (c .before .before .before .before .before .before .before .before .before .before .before .before .before .args .self .n) (c .before .before .before .before .before .if1 .p) q (c .before .before .before .before .loop .i + 1))
+    (λ w. subst (λ (q : List Vcpu). Sweeping (c .before .before .before .before .before .before .before .before .before .before .before .before
+    .before .args .now) (c .before .before .before .before .before .before .before .before .before .before .before .before .before .args .self
+    .ids) (c .before .before .before .before .before .before .before .before .before .before .before .before .before .args .self .n)
+    (c .before .before .before .before .before .if1 .p) q (c .before .before .before .before .loop .i + 1))
     (sym (w .2 ∙ ap (set (c .before .before .before .before .loop .p) (c .before .before .before .before .loop .i)) (w .1 .ensures)))
-    (sweep-due (c .before .before .before .before .before .before .before .before .before .before .before .before .before .args .now) (c .before .before .before .before .before .before .before .before .before .before .before .before .before .args .self .ids) (c .before .before .before .before .before .before .before .before .before .before .before .before .before .args .self .n) (c .before .before .before .before .before .if1 .p) (c .before .before .before .before .loop .p) (c .before .before .before .before .loop .i) (c .before .before .before .before .loop .inv) (c .before .before .before .loop-test .taken) unread))
-    (λ w. subst (λ (q : List Vcpu). Sweeping (c .before .before .before .before .before .before .before .before .before .before .before .before .before .args .now) (c .before .before .before .before .before .before .before .before .before .before .before .before .before .args .self .ids) (c .before .before .before .before .before .before .before .before .before .before .before .before .before .args .self .n) (c .before .before .before .before .before .if1 .p) q (c .before .before .before .before .loop .i + 1))
+    (sweep-due (c .before .before .before .before .before .before .before .before .before .before .before .before .before .args .now)
+    (c .before .before .before .before .before .before .before .before .before .before .before .before .before .args .self .ids)
+    (c .before .before .before .before .before .before .before .before .before .before .before .before .before .args .self .n)
+    (c .before .before .before .before .before .if1 .p) (c .before .before .before .before .loop .p)
+    (c .before .before .before .before .loop .i) (c .before .before .before .before .loop .inv) (c .before .before .before .loop-test .taken) unread))
+    (λ w. subst (λ (q : List Vcpu). Sweeping (c .before .before .before .before .before .before .before .before .before .before .before .before
+    .before .args .now) (c .before .before .before .before .before .before .before .before .before .before .before .before .before .args .self
+    .ids) (c .before .before .before .before .before .before .before .before .before .before .before .before .before .args .self .n)
+    (c .before .before .before .before .before .if1 .p) q (c .before .before .before .before .loop .i + 1))
     (sym (w .1))
-    (sweep-rests (c .before .before .before .before .before .before .before .before .before .before .before .before .before .args .now) (c .before .before .before .before .before .before .before .before .before .before .before .before .before .args .self .ids) (c .before .before .before .before .before .before .before .before .before .before .before .before .before .args .self .n) (c .before .before .before .before .before .if1 .p) (c .before .before .before .before .loop .p) (c .before .before .before .before .loop .i) (c .before .before .before .before .loop .inv) (c .before .before .before .loop-test .taken) unread (sym (c .before .due-by .ensures) ∙ w .0 .left)))
+    (sweep-rests (c .before .before .before .before .before .before .before .before .before .before .before .before .before .args .now)
+    (c .before .before .before .before .before .before .before .before .before .before .before .before .before .args .self .ids)
+    (c .before .before .before .before .before .before .before .before .before .before .before .before .before .args .self .n)
+    (c .before .before .before .before .before .if1 .p) (c .before .before .before .before .loop .p)
+    (c .before .before .before .before .loop .i) (c .before .before .before .before .loop .inv)
+    (c .before .before .before .loop-test .taken) unread (sym (c .before .due-by .ensures) ∙ w .0 .left)))
     (c .if2 .came)
 
 enum-known-change : tie.Need-enum-known-change Inv-loop μ-loop Inv-loop2 μ-loop2
@@ -330,10 +431,12 @@ admitted-requires : tie.Need-admitted-requires Inv-loop μ-loop Inv-loop2 μ-loo
 admitted-requires c κs = search needs
 
 with-vcpu-requires : tie.Need-with-vcpu-requires Inv-loop μ-loop Inv-loop2 μ-loop2
-with-vcpu-requires c κs = subst (λ (k : ℕ). k ≤ 32) (sym (c .before .before .spot .ensures)) (spot-small (c .before .before .before .before .before .before) _ (c .before .before .before .before .change .given .1))
+with-vcpu-requires c κs = subst (λ (k : ℕ). k ≤ 32) (sym (c .before .before .spot .ensures)) (spot-small
+    (c .before .before .before .before .before .before) _ (c .before .before .before .before .change .given .1))
 
 with-id-requires : tie.Need-with-id-requires Inv-loop μ-loop Inv-loop2 μ-loop2
-with-id-requires c κs = subst (λ (k : ℕ). k ≤ 32) (sym (c .before .before .before .spot .ensures)) (spot-small (c .before .before .before .before .before .before .before) _ (c .before .before .before .before .before .change .given .1))
+with-id-requires c κs = subst (λ (k : ℕ). k ≤ 32) (sym (c .before .before .before .spot .ensures)) (spot-small
+    (c .before .before .before .before .before .before .before) _ (c .before .before .before .before .before .change .given .1))
 
 add-n : tie.Need-add-n Inv-loop μ-loop Inv-loop2 μ-loop2
 add-n c = search needs
@@ -354,7 +457,12 @@ without-id-requires : tie.Need-without-id-requires Inv-loop μ-loop Inv-loop2 μ
 without-id-requires c κs = at-small (c .before .before .before .before .before .before .before .before)
 
 sub-n : tie.Need-sub-n Inv-loop μ-loop Inv-loop2 μ-loop2
-sub-n c = omega (arith, named-there (c .before .before .before .before .before .before) _ (c .before .before .before .before .enum-told .given .1) .1, after-return (c .before .before .before .before .before .before) .filled .count)
+sub-n c = omega (
+  arith,
+  named-there (c .before .before .before .before .before .before) _
+      (c .before .before .before .before .enum-told .given .1) .1,
+  after-return (c .before .before .before .before .before .before) .filled .count,
+)
 
 mul-v-3 : tie.Need-mul-v-3 Inv-loop μ-loop Inv-loop2 μ-loop2
 mul-v-3 c = omega (arith, at-small (c .before .before .before .before))
@@ -396,7 +504,19 @@ loop2-less : tie.Need-loop2-less Inv-loop μ-loop Inv-loop2 μ-loop2
 loop2-less c = search needs
 
 loop2-again : tie.Need-loop2-again Inv-loop μ-loop Inv-loop2 μ-loop2
-loop2-again c = let h : c .before .before .before .loop2 .j < c .before .before .before .before .before .before .match2 .n = c .before .before .loop2-test .taken in (omega arith, table-few (c .before .before .before .before .before .before), table-long (c .before .before .before .before .before .before), ap (λ (k : Pick). picks k (c .before .before .before .loop2 .j + 1) (drop (c .before .before .before .loop2 .j + 1) (take (c .before .before .before .before .before .before .match2 .n) (c .before .before .before .before .before .before .match2 .p)))) (c .picked .ensures) ∙ scan-step (c .before .before .before .loop2 .pick) (c .before .before .before .loop2 .j) (c .before .before .before .before .before .before .match2 .n) (c .before .before .before .before .before .before .match2 .p) unread h (table-few (c .before .before .before .before .before .before)) (table-long (c .before .before .before .before .before .before)) ∙ c .before .before .before .loop2 .inv .3)
+loop2-again c = let h : c .before .before .before .loop2 .j < c .before .before .before .before .before .before .match2 .n = c .before .before
+    .loop2-test .taken in (
+      omega arith,
+      table-few (c .before .before .before .before .before .before),
+      table-long (c .before .before .before .before .before .before),
+      ap
+          (λ (k : Pick). picks k (c .before .before .before .loop2 .j + 1) (drop (c .before .before .before .loop2 .j + 1) (take
+          (c .before .before .before .before .before .before .match2 .n) (c .before .before .before .before .before .before .match2 .p))))
+          (c .picked .ensures) ∙ scan-step (c .before .before .before .loop2 .pick) (c .before .before .before .loop2 .j)
+          (c .before .before .before .before .before .before .match2 .n) (c .before .before .before .before .before .before .match2 .p) unread h
+          (table-few (c .before .before .before .before .before .before)) (table-long (c .before .before .before .before .before .before))
+          ∙ c .before .before .before .loop2 .inv .3,
+    )
 
 timer-at-requires : tie.Need-timer-at-requires Inv-loop μ-loop Inv-loop2 μ-loop2
 timer-at-requires c κs = search needs
@@ -409,8 +529,15 @@ timer-of-requires c κs = search needs
 
 returns-2 : tie.Need-returns-2 Inv-loop μ-loop Inv-loop2 μ-loop2
 returns-2 c = (
-  answered-there c ∙ sym (turned-accepted (c .before .before .before .before .before .before .before .before .before .before .before .before .before .before .before .before .before .before .before .args .self) (c .before .before .before .before .before .before .before .before .before .before .before .before .before .before .before .before .before .before .before .args .now) (c .before .before .before .before .before .before .before .before .before .before .before .before .before .before .before .before .before .before .before .args .change) (accept (c .before .before .before .before .before .before .before .before .before .before .before .before) .0)),
-  subst ValidCore (sym (ap (λ (x : Answer). x .core) (answered-there c))) (core-valid (c .before .before .before .before .before .before .before .before .before .before .before .before .before .before .before .before .before .before .before .args .now .0) (vs-of c) (time-of c) (good-there (c .before .before .before .before .before .before .before .before))),
+  answered-there c ∙ sym (turned-accepted (c .before .before .before .before .before .before .before .before .before .before .before .before .before
+      .before .before .before .before .before .before .args .self)
+      (c .before .before .before .before .before .before .before .before .before .before .before .before .before .before .before .before .before
+      .before .before .args .now) (c .before .before .before .before .before .before .before .before .before .before .before .before .before .before
+      .before .before .before .before .before .args .change) (accept
+      (c .before .before .before .before .before .before .before .before .before .before .before .before) .0)),
+  subst ValidCore (sym (ap (λ (x : Answer). x .core) (answered-there c))) (core-valid
+      (c .before .before .before .before .before .before .before .before .before .before .before .before .before .before .before .before .before
+      .before .before .args .now .0) (vs-of c) (time-of c) (good-there (c .before .before .before .before .before .before .before .before))),
 )
 
 pub turn-spec : {M : Type 1} → statement M

@@ -11,10 +11,20 @@ returns-2 : tie.Need-returns-2
 returns-2 c = rw (le-leb 1 (c .before .before .args .period) (c .before .if1 .left), lt-leb (c .before .before .args .period) 1000000 (c .if2 .taken))
 
 returns-3 : tie.Need-returns-3
-returns-3 c = rw (le-leb 1 (c .before .before .before .args .period) (c .before .before .if1 .left), le-leb (c .before .before .before .args .period) 1000000 (c .before .if2 .left), lt-leb 1 (c .before .before .before .args .capacity) (c .if3 .taken))
+returns-3 c = rw (
+  le-leb 1 (c .before .before .before .args .period) (c .before .before .if1 .left),
+  le-leb
+      (c .before .before .before .args .period) 1000000 (c .before .if2 .left),
+  lt-leb 1 (c .before .before .before .args .capacity) (c .if3 .taken),
+)
 
 returns-4 : tie.Need-returns-4
-returns-4 c = rw (le-leb 1 (c .before .before .before .args .period) (c .before .before .if1 .left), le-leb (c .before .before .before .args .period) 1000000 (c .before .if2 .left), le-leb 1 (c .before .before .before .args .capacity) (c .if3 .left))
+returns-4 c = rw (
+  le-leb 1 (c .before .before .before .args .period) (c .before .before .if1 .left),
+  le-leb
+      (c .before .before .before .args .period) 1000000 (c .before .if2 .left),
+  le-leb 1 (c .before .before .before .args .capacity) (c .if3 .left),
+)
 
 pub in-range-spec : {M : Type 1} → statement M
 in-range-spec = tie.close (tie.spec returns returns-2 returns-3 returns-4)

@@ -26,7 +26,11 @@ refused-requires-2 c κs = search needs
 
 returns-2 : tie.Need-returns-2
 unfolding judge
-returns-2 c = rw (ap (ltb largestTime) (sym (c .before .before .before .before .ticks .ensures)) ∙ c .before .before .before .if1 .left, sym (c .before .before .before2 .ensures) ∙ c .before .if2 .taken) (c .refused2 .ensures)
+returns-2 c = rw (
+  ap (ltb largestTime) (sym (c .before .before .before .before .ticks .ensures)) ∙ c .before .before .before .if1 .left,
+  sym
+      (c .before .before .before2 .ensures) ∙ c .before .if2 .taken,
+) (c .refused2 .ensures)
 
 before-requires-2 : tie.Need-before-requires-2
 before-requires-2 c κs = search needs
@@ -39,14 +43,27 @@ refused-requires-3 c κs = search needs
 
 returns-3 : tie.Need-returns-3
 unfolding judge
-returns-3 c = rw (ap (ltb largestTime) (sym (c .before .before .before .before .before .before .before .ticks .ensures)) ∙ c .before .before .before .before .before .before .if1 .left, sym (c .before .before .before .before .before .before2 .ensures) ∙ c .before .before .before .before .if2 .left, sym (c .before .before .before .before3 .ensures) ∙ c .before .before .if3 .taken) (c .refused3 .ensures ∙ ap (refuse 3) (c .before .ticks2 .ensures))
+returns-3 c = rw (
+  ap (ltb largestTime) (sym (c .before .before .before .before .before .before .before .ticks .ensures))
+      ∙ c .before .before .before .before .before .before .if1 .left,
+  sym (c .before .before .before .before .before .before2 .ensures)
+      ∙ c .before .before .before .before .if2 .left,
+  sym (c .before .before .before .before3 .ensures) ∙ c .before .before .if3 .taken,
+)
+    (c .refused3 .ensures ∙ ap (refuse 3) (c .before .ticks2 .ensures))
 
 judged-call-requires : tie.Need-judged-call-requires
 judged-call-requires c κs = search needs
 
 returns-4 : tie.Need-returns-4
 unfolding judge
-returns-4 c = rw (ap (ltb largestTime) (sym (c .before .before .before .before .before .before .ticks .ensures)) ∙ c .before .before .before .before .before .if1 .left, sym (c .before .before .before .before .before2 .ensures) ∙ c .before .before .before .if2 .left, sym (c .before .before .before3 .ensures) ∙ c .before .if3 .left) (c .judged-call .ensures)
+returns-4 c = rw (
+  ap (ltb largestTime) (sym (c .before .before .before .before .before .before .ticks .ensures))
+      ∙ c .before .before .before .before .before .if1 .left,
+  sym (c .before .before .before .before .before2 .ensures)
+      ∙ c .before .before .before .if2 .left,
+  sym (c .before .before .before3 .ensures) ∙ c .before .if3 .left,
+) (c .judged-call .ensures)
 
 pub judged-spec : {M : Type 1} → statement M
 judged-spec =

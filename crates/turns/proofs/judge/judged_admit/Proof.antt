@@ -35,7 +35,12 @@ refused-requires-2 c κs = search needs
 
 returns-2 : tie.Need-returns-2
 unfolding judgeAdmit
-returns-2 c = rw (ap (ltb largestTunnel) (sym (c .before .before .before .before .before .before .number .ensures)) ∙ c .before .before .before .before .before .if1 .left, ap not (sym (c .before .before .in-range .ensures ∙ ap₂ inRange (c .before .before .before .before .ticks .ensures) (c .before .before .before .ticks2 .ensures))) ∙ c .before .if2 .taken) (c .refused2 .ensures)
+returns-2 c = rw (
+  ap (ltb largestTunnel) (sym (c .before .before .before .before .before .before .number .ensures))
+      ∙ c .before .before .before .before .before .if1 .left,
+  ap not (sym (c .before .before .in-range .ensures ∙ ap₂ inRange
+      (c .before .before .before .before .ticks .ensures) (c .before .before .before .ticks2 .ensures))) ∙ c .before .if2 .taken,
+) (c .refused2 .ensures)
 
 find-requires : tie.Need-find-requires
 find-requires c κs = search needs
@@ -45,18 +50,43 @@ refused-requires-3 c κs = search needs
 
 returns-3 : tie.Need-returns-3
 unfolding judgeAdmit
-returns-3 c = rw (ap (ltb largestTunnel) (sym (c .before .before .before .before .before .before .before .before .number .ensures)) ∙ c .before .before .before .before .before .before .before .if1 .left, ap not (sym (c .before .before .before .before .in-range .ensures ∙ ap₂ inRange (c .before .before .before .before .before .before .ticks .ensures) (c .before .before .before .before .before .ticks2 .ensures))) ∙ c .before .before .before .if2 .left, ap (λ (k : ℕ). ltb k idle) (sym (c .before .before .find .ensures)) ∙ c .before .if3 .taken) (c .refused3 .ensures)
+returns-3 c = rw (
+  ap (ltb largestTunnel) (sym (c .before .before .before .before .before .before .before .before .number .ensures))
+      ∙ c .before .before .before .before .before .before .before .if1 .left,
+  ap not (sym (c .before .before .before .before .in-range .ensures
+      ∙ ap₂ inRange (c .before .before .before .before .before .before .ticks .ensures) (c .before .before .before .before .before .ticks2 .ensures)))
+      ∙ c .before .before .before .if2 .left,
+  ap (λ (k : ℕ). ltb k idle) (sym (c .before .before .find .ensures)) ∙ c .before .if3 .taken,
+) (c .refused3 .ensures)
 
 refused-requires-4 : tie.Need-refused-requires-4
 refused-requires-4 c κs = search needs
 
 returns-4 : tie.Need-returns-4
 unfolding judgeAdmit
-returns-4 c = rw (ap (ltb largestTunnel) (sym (c .before .before .before .before .before .before .before .before .before .number .ensures)) ∙ c .before .before .before .before .before .before .before .before .if1 .left, ap not (sym (c .before .before .before .before .before .in-range .ensures ∙ ap₂ inRange (c .before .before .before .before .before .before .before .ticks .ensures) (c .before .before .before .before .before .before .ticks2 .ensures))) ∙ c .before .before .before .before .if2 .left, ap (λ (k : ℕ). ltb k idle) (sym (c .before .before .before .find .ensures)) ∙ c .before .before .if3 .left, c .before .if4 .taken) (c .refused4 .ensures)
+returns-4 c = rw (
+  ap (ltb largestTunnel) (sym (c .before .before .before .before .before .before .before .before .before .number .ensures))
+      ∙ c .before .before .before .before .before .before .before .before .if1 .left,
+  ap not (sym
+      (c .before .before .before .before .before .in-range .ensures ∙ ap₂ inRange
+      (c .before .before .before .before .before .before .before .ticks .ensures)
+      (c .before .before .before .before .before .before .ticks2 .ensures))) ∙ c .before .before .before .before .if2 .left,
+  ap (λ
+      (k : ℕ). ltb k idle) (sym (c .before .before .before .find .ensures)) ∙ c .before .before .if3 .left,
+  c .before .if4 .taken,
+) (c .refused4 .ensures)
 
 returns-5 : tie.Need-returns-5
 unfolding judgeAdmit
-returns-5 c = rw (ap (ltb largestTunnel) (sym (c .before .before .before .before .before .before .before .before .number .ensures)) ∙ c .before .before .before .before .before .before .before .if1 .left, ap not (sym (c .before .before .before .before .in-range .ensures ∙ ap₂ inRange (c .before .before .before .before .before .before .ticks .ensures) (c .before .before .before .before .before .ticks2 .ensures))) ∙ c .before .before .before .if2 .left, ap (λ (k : ℕ). ltb k idle) (sym (c .before .before .find .ensures)) ∙ c .before .if3 .left, c .if4 .left)
+returns-5 c = rw (
+  ap (ltb largestTunnel) (sym (c .before .before .before .before .before .before .before .before .number .ensures))
+      ∙ c .before .before .before .before .before .before .before .if1 .left,
+  ap not (sym (c .before .before .before .before .in-range .ensures
+      ∙ ap₂ inRange (c .before .before .before .before .before .before .ticks .ensures) (c .before .before .before .before .before .ticks2 .ensures)))
+      ∙ c .before .before .before .if2 .left,
+  ap (λ (k : ℕ). ltb k idle) (sym (c .before .before .find .ensures)) ∙ c .before .if3 .left,
+  c .if4 .left,
+)
 
 pub judged-admit-spec : {M : Type 1} → statement M
 judged-admit-spec =

@@ -28,11 +28,19 @@ refused-requires-2 c κs = search needs
 
 returns-2 : tie.Need-returns-2
 unfolding judgeNaming
-returns-2 c = rw (ap (ltb largestTunnel) (sym (c .before .before .before .before .number .ensures)) ∙ c .before .before .before .if1 .left, ap (leb idle) (sym (c .before .before .find .ensures)) ∙ c .before .if2 .taken) (c .refused2 .ensures)
+returns-2 c = rw (
+  ap (ltb largestTunnel) (sym (c .before .before .before .before .number .ensures)) ∙ c .before .before .before .if1 .left,
+  ap
+      (leb idle) (sym (c .before .before .find .ensures)) ∙ c .before .if2 .taken,
+) (c .refused2 .ensures)
 
 returns-3 : tie.Need-returns-3
 unfolding judgeNaming
-returns-3 c = rw (ap (ltb largestTunnel) (sym (c .before .before .before .number .ensures)) ∙ c .before .before .if1 .left, ap (leb idle) (sym (c .before .find .ensures)) ∙ c .if2 .left) (ap Go (c .before .find .ensures))
+returns-3 c = rw (
+  ap (ltb largestTunnel) (sym (c .before .before .before .number .ensures)) ∙ c .before .before .if1 .left,
+  ap (leb idle) (sym
+      (c .before .find .ensures)) ∙ c .if2 .left,
+) (ap Go (c .before .find .ensures))
 
 pub judged-naming-spec : {M : Type 1} → statement M
 judged-naming-spec =

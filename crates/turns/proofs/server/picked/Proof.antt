@@ -26,7 +26,13 @@ sooner-requires c κs = search needs
 
 returns-3 : tie.Need-returns-3
 unfolding pickedOf
-returns-3 c = rw (le-ltb _ _ (c .before .before .before .before .before .before .before .if1 .left), (sym (c .before .before .before .before .ready .ensures) ∙ c .before .before .before .if2 .left), c .sooner .ensures, c .before .waits .ensures)
+returns-3 c = rw (
+  le-ltb _ _ (c .before .before .before .before .before .before .before .if1 .left),
+  (sym
+      (c .before .before .before .before .ready .ensures) ∙ c .before .before .before .if2 .left),
+  c .sooner .ensures,
+  c .before .waits .ensures,
+)
 
 pub picked-spec : {M : Type 1} → statement M
 picked-spec =

@@ -24,16 +24,29 @@ due-by-requires : tie.Need-due-by-requires Inv-loop μ-loop
 due-by-requires c κs = search needs
 
 returned-one-requires : tie.Need-returned-one-requires Inv-loop μ-loop
-returned-one-requires c κs = one-asks (c .before .before .loop .w) (c .before .before .before .args .now) (c .before .before .loop .inv .0) (sym (c .before .due-by .ensures) ∙ c .if1 .taken)
+returned-one-requires c κs = one-asks (c .before .before .loop .w) (c .before .before .before .args .now) (c .before .before .loop .inv .0) (sym
+    (c .before .due-by .ensures) ∙ c .if1 .taken)
 
 loop-less : tie.Need-loop-less Inv-loop μ-loop
-loop-less c = subst (λ (x : Vcpu). x .count < c .before .before .before .loop .w .count) (sym (c .returned-one .ensures)) ((one-again (c .before .before .before .loop .w) (c .before .before .before .before .args .now) (c .before .before .before .loop .inv .0) (sym (c .before .before .due-by .ensures) ∙ c .before .if1 .taken)) .less)
+loop-less c = subst (λ (x : Vcpu). x .count < c .before .before .before .loop .w .count) (sym (c .returned-one .ensures)) ((one-again
+    (c .before .before .before .loop .w) (c .before .before .before .before .args .now) (c .before .before .before .loop .inv .0) (sym
+    (c .before .before .due-by .ensures) ∙ c .before .if1 .taken)) .less)
 
 loop-again : tie.Need-loop-again Inv-loop μ-loop
-loop-again c = subst (λ (x : Vcpu). Returnable x (c .before .before .before .before .args .now) × (returnedRule (c .before .before .before .before .args .now .0) (bare x) ≡ returnedRule (c .before .before .before .before .args .now .0) (bare (c .before .before .before .before .args .v)))) (sym (c .returned-one .ensures)) ((one-again (c .before .before .before .loop .w) (c .before .before .before .before .args .now) (c .before .before .before .loop .inv .0) (sym (c .before .before .due-by .ensures) ∙ c .before .if1 .taken)) .returnable, (one-again (c .before .before .before .loop .w) (c .before .before .before .before .args .now) (c .before .before .before .loop .inv .0) (sym (c .before .before .due-by .ensures) ∙ c .before .if1 .taken)) .end ∙ c .before .before .before .loop .inv .1)
+loop-again c = subst (λ (x : Vcpu). Returnable x (c .before .before .before .before .args .now) × (returnedRule
+    (c .before .before .before .before .args .now .0) (bare x) ≡ returnedRule (c .before .before .before .before .args .now .0) (bare
+    (c .before .before .before .before .args .v)))) (sym (c .returned-one .ensures)) (
+      (one-again (c .before .before .before .loop .w)
+          (c .before .before .before .before .args .now) (c .before .before .before .loop .inv .0) (sym (c .before .before .due-by .ensures)
+          ∙ c .before .if1 .taken)) .returnable,
+      (one-again (c .before .before .before .loop .w) (c .before .before .before .before .args .now)
+          (c .before .before .before .loop .inv .0) (sym (c .before .before .due-by .ensures) ∙ c .before .if1 .taken)) .end
+          ∙ c .before .before .before .loop .inv .1,
+    )
 
 returns : tie.Need-returns Inv-loop μ-loop
-returns c = one-ends (c .before .before .loop .w) (c .before .before .before .args .now) (c .before .before .loop .inv .0) (sym (c .before .due-by .ensures) ∙ c .if1 .left) ∙ ap written (c .before .before .loop .inv .1)
+returns c = one-ends (c .before .before .loop .w) (c .before .before .before .args .now) (c .before .before .loop .inv .0) (sym
+    (c .before .due-by .ensures) ∙ c .if1 .left) ∙ ap written (c .before .before .loop .inv .1)
 
 pub returned-spec : {M : Type 1} → statement M
 returned-spec =

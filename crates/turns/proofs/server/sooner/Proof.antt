@@ -13,10 +13,12 @@ before-requires : tie.Need-before-requires
 before-requires c κs = search needs
 
 returns : tie.Need-returns
-returns c = let h : c .before .before .args .b .0 < c .before .before .args .a .0 = ltb-true _ _ (sym (c .before .before2 .ensures) ∙ c .if1 .taken) in ap moment (omega arith)
+returns c = let h : c .before .before .args .b .0 < c .before .before .args .a .0 = ltb-true _ _ (sym (c .before .before2 .ensures)
+    ∙ c .if1 .taken) in ap moment (omega arith)
 
 returns-2 : tie.Need-returns-2
-returns-2 c = let h : c .before .before .args .a .0 ≤ c .before .before .args .b .0 = ltb-false _ _ (sym (c .before .before2 .ensures) ∙ c .if1 .left) in ap moment (omega arith)
+returns-2 c = let h : c .before .before .args .a .0 ≤ c .before .before .args .b .0 = ltb-false _ _ (sym (c .before .before2 .ensures)
+    ∙ c .if1 .left) in ap moment (omega arith)
 
 pub sooner-spec : {M : Type 1} → statement M
 sooner-spec = tie.close (tie.spec before-requires returns returns-2)

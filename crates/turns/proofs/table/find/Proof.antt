@@ -29,7 +29,14 @@ same-requires : tie.Need-same-requires Inv-loop μ-loop
 same-requires c κs = search needs
 
 returns : tie.Need-returns Inv-loop μ-loop
-returns c = let i : c .before .before .before .before .loop .k < length (c .before .before .before .before .before .args .t1) = omega (arith, c .before .before .before .before .loop .inv .1, c .before .before .before .loop-test .taken) in omega (arith, c .before .before .before .before .loop .inv .2, seek-here (c .before .before .before .before .before .args .id .0) (c .before .before .before .before .before .args .t1) (c .before .before .before .before .loop .k) i (sym (c .before .same .ensures) ∙ c .if1 .taken))
+returns c = let i : c .before .before .before .before .loop .k < length (c .before .before .before .before .before .args .t1) = omega
+    (arith, c .before .before .before .before .loop .inv .1, c .before .before .before .loop-test .taken) in
+    omega (
+      arith,
+      c .before .before .before .before .loop .inv .2,
+      seek-here (c .before .before .before .before .before .args .id .0)
+          (c .before .before .before .before .before .args .t1) (c .before .before .before .before .loop .k) i (sym (c .before .same .ensures) ∙ c .if1 .taken),
+    )
 
 add-k : tie.Need-add-k Inv-loop μ-loop
 add-k c = search needs
@@ -38,10 +45,19 @@ loop-less : tie.Need-loop-less Inv-loop μ-loop
 loop-less c = omega arith
 
 loop-again : tie.Need-loop-again Inv-loop μ-loop
-loop-again c = let i : c .before .before .before .before .loop .k < length (c .before .before .before .before .before .args .t1) = omega (arith, c .before .before .before .before .loop .inv .1, c .before .before .before .loop-test .taken) in (omega arith, c .before .before .before .before .loop .inv .1, c .before .before .before .before .loop .inv .2 ∙ seek-on (c .before .before .before .before .before .args .id .0) (c .before .before .before .before .before .args .t1) (c .before .before .before .before .loop .k) i (sym (c .before .same .ensures) ∙ c .if1 .left))
+loop-again c = let i : c .before .before .before .before .loop .k < length (c .before .before .before .before .before .args .t1) = omega
+    (arith, c .before .before .before .before .loop .inv .1, c .before .before .before .loop-test .taken) in (
+      omega arith,
+      c .before .before .before .before .loop .inv .1,
+      c .before .before .before .before .loop .inv .2 ∙ seek-on
+          (c .before .before .before .before .before .args .id .0) (c .before .before .before .before .before .args .t1)
+          (c .before .before .before .before .loop .k) i (sym (c .before .same .ensures) ∙ c .if1 .left),
+    )
 
 returns-2 : tie.Need-returns-2 Inv-loop μ-loop
-returns-2 c = let h : length (c .before .before .args .t1) ≤ c .before .loop .k = omega (arith, c .before .loop .inv .1) in let f : seek (c .before .before .args .id .0) (drop (c .before .loop .k) (c .before .before .args .t1)) ≡ 0 = ap (seek (c .before .before .args .id .0)) (drop-of-length-le (c .before .before .args .t1) h) in omega (arith, c .before .loop .inv .2)
+returns-2 c = let h : length (c .before .before .args .t1) ≤ c .before .loop .k = omega (arith, c .before .loop .inv .1) in
+    let f : seek (c .before .before .args .id .0) (drop (c .before .loop .k) (c .before .before .args .t1)) ≡ 0 = ap (seek
+    (c .before .before .args .id .0)) (drop-of-length-le (c .before .before .args .t1) h) in omega (arith, c .before .loop .inv .2)
 
 pub find-spec : {M : Type 1} → statement M
 find-spec =

@@ -39,10 +39,18 @@ loop-less : tie.Need-loop-less Inv-loop μ-loop
 loop-less c = omega arith
 
 loop-again : tie.Need-loop-again Inv-loop μ-loop
-loop-again c = let i : c .before .before .loop .k < length (c .before .before .loop .q) = omega (arith, c .before .before .loop .inv .1, c .before .loop-test .taken) in (omega arith, length-set (c .before .before .loop .q) (c .before .before .loop .k) (c .before .before .loop .carried) ∙ c .before .before .loop .inv .1, insert-step (c .before .before .loop .q) (c .before .before .loop .k) (c .before .before .loop .carried) _ i ∙ c .before .before .loop .inv .2)
+loop-again c = let i : c .before .before .loop .k < length (c .before .before .loop .q) = omega
+    (arith, c .before .before .loop .inv .1, c .before .loop-test .taken) in (
+      omega arith,
+      length-set (c .before .before .loop .q) (c .before .before .loop .k) (c .before .before .loop .carried)
+          ∙ c .before .before .loop .inv .1,
+      insert-step (c .before .before .loop .q) (c .before .before .loop .k) (c .before .before .loop .carried) _ i
+          ∙ c .before .before .loop .inv .2,
+    )
 
 returns : tie.Need-returns Inv-loop μ-loop
-returns c = sym (insert-end (c .before .loop .q) (c .before .loop .k) (c .before .loop .carried) (omega (arith, c .before .loop .inv .1))) ∙ c .before .loop .inv .2
+returns c = sym (insert-end (c .before .loop .q) (c .before .loop .k) (c .before .loop .carried) (omega (arith, c .before .loop .inv .1)))
+    ∙ c .before .loop .inv .2
 
 pub with-id-spec : {M : Type 1} → statement M
 with-id-spec =

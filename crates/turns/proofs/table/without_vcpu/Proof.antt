@@ -42,13 +42,22 @@ loop-less : tie.Need-loop-less Inv-loop μ-loop
 loop-less c = omega arith
 
 loop-again : tie.Need-loop-again Inv-loop μ-loop
-loop-again c = let i : c .before .before .loop .k + 1 < length (c .before .before .loop .q) = omega (arith, c .before .before .loop .inv .1, c .before .loop-test .taken) in (omega arith, simp length-set (c .before .before .loop .inv .1), remove-step (c .before .before .loop .q) (c .before .before .loop .k) _ _ i ∙ c .before .before .loop .inv .2)
+loop-again c = let i : c .before .before .loop .k + 1 < length (c .before .before .loop .q) = omega
+    (arith, c .before .before .loop .inv .1, c .before .loop-test .taken) in (
+      omega arith,
+      simp length-set (c .before .before .loop .inv .1),
+      remove-step (c .before .before .loop .q) (c .before .before .loop .k) _ _ i
+          ∙ c .before .before .loop .inv .2,
+    )
 
 array-set-from-q-2 : tie.Need-array-set-from-q-2 Inv-loop μ-loop
 array-set-from-q-2 c = search needs
 
 returns : tie.Need-returns Inv-loop μ-loop
-returns c = let e : c .before .loop .k ≡ 31 = omega (arith, c .before .loop .inv .0) in remove-end (c .before .loop .q) 31 _ (c .before .loop .inv .1) ∙ subst (λ (k : ℕ). take k (c .before .loop .q) ++ (drop (suc k) (c .before .loop .q) ++ c .before .before .args .v ∷ []) ≡ removed (c .before .before .args .at) (c .before .before .args .v) (c .before .before .args .p)) e (c .before .loop .inv .2)
+returns c = let e : c .before .loop .k ≡ 31 = omega (arith, c .before .loop .inv .0) in
+    remove-end (c .before .loop .q) 31 _ (c .before .loop .inv .1) ∙ subst (λ (k : ℕ). take k (c .before .loop .q) ++ (drop (suc k)
+    (c .before .loop .q) ++ c .before .before .args .v ∷ []) ≡ removed (c .before .before .args .at) (c .before .before .args .v)
+    (c .before .before .args .p)) e (c .before .loop .inv .2)
 
 pub without-vcpu-spec : {M : Type 1} → statement M
 without-vcpu-spec =

@@ -1,0 +1,95 @@
+-- `serve` goes from newline to newline. Assumes nothing.
+use Rattle.queries.proofs.Parts.{Going, going-start, done-end, done-full, going-on}
+use lib.ListN.{length}
+use native.Mathlib.Omega.{arith}
+use Prim.Native.Nat.{_+_, _-_}
+use borrow.Author.Needs.{needs}
+use Rattle.queries.proofs.part.serve.Statement.{statement}
+use Rattle.queries.proofs.part.serve.Tie as tie
+
+abbrev Inv-loop : tie.InvT-loop
+Inv-loop input out₀ line₀ count₀ from₀ out line count from = Going input out₀ line₀ out line count from
+
+abbrev μ-loop : tie.MeasureT-loop
+μ-loop input out₀ line₀ count₀ from₀ out line count from = length input + 1 - from
+
+loop-holds : tie.Need-loop-holds Inv-loop μ-loop
+loop-holds c = going-start _ _ _
+
+line-end-requires : tie.Need-line-end-requires Inv-loop μ-loop
+line-end-requires c κs = search needs
+
+sub-fed : tie.Need-sub-fed Inv-loop μ-loop
+sub-fed c = search needs
+
+part-fed-start : tie.Need-part-fed-start Inv-loop μ-loop
+part-fed-start c = search needs
+
+part-fed-end : tie.Need-part-fed-end Inv-loop μ-loop
+part-fed-end c = search needs
+
+fed-requires : tie.Need-fed-requires Inv-loop μ-loop
+fed-requires c κs = search needs
+
+same-length : tie.Need-same-length Inv-loop μ-loop
+same-length c = c .before .before .before .before .loop .inv .size
+
+returns : tie.Need-returns Inv-loop μ-loop
+returns c = done-end _ _ _ _ _ _ _ _ (c .before .before .before .before .loop .inv) (c .before .before .before .line-end .ensures) _ (c .before .fed .ensures) (c .if1 .taken)
+
+add-if2 : tie.Need-add-if2 Inv-loop μ-loop
+add-if2 c = search needs
+
+same-length-2 : tie.Need-same-length-2 Inv-loop μ-loop
+same-length-2 c = c .before .before .before .before .before .loop .inv .size
+
+returns-2 : tie.Need-returns-2 Inv-loop μ-loop
+returns-2 c = done-full _ _ _ _ _ _ _ _ (c .before .before .before .before .before .loop .inv) (c .before .before .before .before .line-end .ensures) _ (c .before .before .fed .ensures) (c .before .if1 .left) (c .if2 .taken)
+
+answer-requires : tie.Need-answer-requires Inv-loop μ-loop
+answer-requires c κs = search needs
+
+append-requires : tie.Need-append-requires Inv-loop μ-loop
+append-requires c κs = search needs
+
+start-requires : tie.Need-start-requires Inv-loop μ-loop
+start-requires c κs = search needs
+
+add-count : tie.Need-add-count Inv-loop μ-loop
+add-count c = omega (arith, c .before .before .before .before .before .before .answer .ensures .fits, c .before .before .before .before .before .before .before .before .if2 .left, c .before .before .before .before .before .before .before .before .before .before .before .before .before .loop .inv, c .before .before .before .before .before .before .before .before .before .before .before .before .before .before .before .before .good)
+
+add-from : tie.Need-add-from Inv-loop μ-loop
+add-from c = omega (arith, c .before .before .before .before .before .before .before .before .before .before .before .before .line-end .ensures .high, c .before .before .before .before .before .before .before .before .before .before .before .before .before .before .before .before .good)
+
+loop-less : tie.Need-loop-less Inv-loop μ-loop
+loop-less c = search needs
+
+loop-again : tie.Need-loop-again Inv-loop μ-loop
+loop-again c =
+    going-on _ _ _ _ _ _ _ _ (c .before .before .before .before .before .before .before .before .before .before .before .before .before .loop .inv) (c .before .before .before .before .before .before .before .before .before .before .before .before .line-end .ensures) _ (c .before .before .before .before .before .before .before .before .before .before .fed .ensures) (c .before .before .before .before .before .before .before .before .before .if1 .left) (c .before .before .before .before .before .before .before .before .if2 .left) _ _ _ _ _
+    (c .before .before .before .before .before .before .answer .ensures) (c .before .before .before .append .ensures) (c .start .ensures)
+
+pub serve-spec : {M : Type 1} → statement M
+serve-spec =
+    tie.close
+    (tie.spec
+    Inv-loop
+    μ-loop
+    loop-holds
+    line-end-requires
+    sub-fed
+    part-fed-start
+    part-fed-end
+    fed-requires
+    same-length
+    returns
+    add-if2
+    same-length-2
+    returns-2
+    answer-requires
+    append-requires
+    start-requires
+    add-count
+    add-from
+    loop-less
+    loop-again)
