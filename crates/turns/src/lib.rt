@@ -167,10 +167,12 @@ impl Core {
         };
         let mut p = self.places;
         let running = self.running;
+        // 1. Charge; in idle nobody is charged.
         if running < n {
             let v = p[running];
             p[running] = server::charged(v, last, now);
         }
+        // 2. Return, for every VCPU, runnable or not.
         let mut i = 0;
         while i < n {
             let v = p[i];
@@ -179,6 +181,7 @@ impl Core {
             }
             i += 1;
         }
+        // 3. Change.
         match change {
             Change::Admit(d) => {
                 let k = table::spot(p, ids, n, d);
@@ -202,6 +205,7 @@ impl Core {
                 p[at] = server::changed(v, change);
             }
         }
+        // 4. Choose: the table is in the order of urgency, and every place in use is looked at.
         let mut pick = Pick {
             at: IDLE,
             usable: Amount::new(0),
@@ -213,6 +217,7 @@ impl Core {
             pick = server::picked(pick, j, v);
             j += 1;
         }
+        // 5. Timer.
         let timer = server::timer_at(now, pick);
         let chosen = pick.at;
         let usable = pick.usable;
