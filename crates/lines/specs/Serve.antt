@@ -1,0 +1,100 @@
+-- Document 01, "Event records and lines": the records of a part of the input, each with its line, and where serving ends.
+-- Assumes nothing.
+use Prim.Native.Nat.{ℕ, zero, suc, _+_, _-_}
+use mathlib.Core.Bool.{Bool, true, false, cond, not, _&&_, _||_}
+use mathlib.Core.List.{List, [], _++_}
+use mathlib.Core.Option.{Option, none, some}
+use lib.Dec.{ltb, eqb}
+use lib.ListN.{length, drop}
+use Rattle.units.specs.declared.Moment.{Moment}
+use Rattle.turns.specs.declared.Change.{Change}
+use Rattle.turns.specs.declared.Change.the-variants.{Admit as AskAdmit, Wake as AskWake, Block as AskBlock, Remove as AskRemove, Tick as AskTick}
+use Rattle.turns.specs.declared.Refusal.{Refusal}
+use Rattle.turns.specs.declared.Core.{Core}
+use Rattle.turns.specs.declared.Answer.{Answer}
+use Rattle.turns.specs.Calls.{turned}
+use Rattle.records.specs.declared.answers.Event.{Event}
+use Rattle.records.specs.declared.answers.Event.the-variants.{Admit, Wake, Block, Remove, Tick}
+use Rattle.records.specs.declared.answers.Read.{Read}
+use Rattle.records.specs.declared.answers.Read.the-variants.{Event as Got, No}
+use Rattle.records.specs.Answer.{readSpec}
+use Rattle.records.specs.Encode.{sizeOf}
+use Rattle.lines.specs.declared.serving.Served.{Served}
+use Rattle.lines.specs.Text.{lineOf, refusalText, longest}
+
+-- the call that an event asks for
+abbrev pub timeOf : Event → Moment
+timeOf (Admit now d) = now
+timeOf (Wake now t) = now
+timeOf (Block now t) = now
+timeOf (Remove now t) = now
+timeOf (Tick now) = now
+
+abbrev pub changeOf : Event → Change
+changeOf (Admit now d) = AskAdmit d
+changeOf (Wake now t) = AskWake t
+changeOf (Block now t) = AskBlock t
+changeOf (Remove now t) = AskRemove t
+changeOf (Tick now) = AskTick
+
+-- between private functions: the refusal that reading gave
+abbrev pub refusalOf : Read → Refusal
+refusalOf (Got e) = record { number = 0; detail = 0 }
+refusalOf (No r) = r
+
+-- what serving gives: the core, the bytes of the records answered, the lines, and whether the input was refused
+pub record Run : Type 0 where
+  pub core : Core
+  pub used : ℕ
+  pub lines : List ℕ
+  pub stopped : Bool
+
+-- nothing more is answered for now
+abbrev pub rests : Core → Run
+rests core = record { core = core; used = 0; lines = []; stopped = false }
+
+-- "After 20, 21 or 22 the program stops."
+abbrev pub stops : Core → Refusal → Run
+stops core r = record { core = core; used = 0; lines = refusalText r; stopped = true }
+
+-- a record that is cut short waits for the rest, unless no more input will come
+abbrev pub waitsFor : Refusal → Bool → Bool
+waitsFor r last = eqb (r .number) 20 && not last
+
+abbrev pub refuses : Core → Bool → Refusal → Run
+refuses core last r = cond (waitsFor r last) (rests core) (stops core r)
+
+-- a record's line, then what comes behind it
+abbrev pub behind : ℕ → List ℕ → Run → Run
+behind size line rest =
+    record { core = rest .core; used = size + rest .used; lines = line ++ rest .lines; stopped = rest .stopped }
+
+-- the room for lines, none for no limit
+abbrev pub full : Option ℕ → Bool
+full none = false
+full (some room) = ltb room longest
+
+abbrev pub less : Option ℕ → ℕ → Option ℕ
+less none n = none
+less (some room) n = some (room - n)
+
+-- an event's line and what `next` gives for the bytes behind its record, or the refusal
+abbrev pub answers : (Core → List ℕ → Option ℕ → Run) → Core → List ℕ → Bool → Option ℕ → Read → Run
+answers next core s last room (Got e) =
+    let a : Answer = turned core (timeOf e) (changeOf e) in
+    behind (sizeOf e) (lineOf (a .reply)) (next (a .core) (drop (sizeOf e) s) (less room (length (lineOf (a .reply)))))
+answers next core s last room (No r) = refuses core last r
+
+-- "At the end of input the program asks for no further record": at most `fuel` records from the front of s
+unfoldable pub served : ℕ → Core → List ℕ → Bool → Option ℕ → Run
+served zero core s last room = rests core
+served (suc fuel) core s last room =
+    cond (eqb (length s) 0 || full room) (rests core)
+    (answers (λ core′ s′ room′. served fuel core′ s′ last room′) core s last room (readSpec s))
+
+-- every record has a byte, so there are no more records than bytes
+unfoldable pub serveOf : Core → List ℕ → Bool → Option ℕ → Run
+serveOf core s last room = served (length s) core s last room
+
+abbrev pub handed : Run → Served
+handed r = record { core = r .core; used = r .used; written = length (r .lines); stopped = r .stopped }

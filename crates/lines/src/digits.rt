@@ -1,0 +1,58 @@
+// A number in decimal.
+ghost use Prim.Native.Nat.{_+_, _≤_, _<_};
+ghost use mathlib.Core.Path.{_≡_};
+ghost use lib.ListN.{length};
+ghost use Rattle.lines.specs.Text.{decimal, Put};
+
+// How many digits a number below 10,000 has.
+fn short_width(n: u64) -> usize
+    requires { ⌜ n < 10000 ⌝ }
+    ensures { λ r. ⌜ r ≡ length (decimal n) ⌝ }
+{
+    if n < 100 {
+        if n < 10 {
+            return 1;
+        }
+        return 2;
+    }
+    if n < 1000 {
+        return 3;
+    }
+    4
+}
+
+// How many digits a number has; found by tests, since a loop of divisions would double the time of a line.
+fn width(n: u64) -> usize
+    ensures { λ r. ⌜ r ≡ length (decimal n) ⌝ }
+{
+    if n < 10000 {
+        return short_width(n);
+    }
+    if n < 100000000 {
+        return 4 + short_width(n / 10000);
+    }
+    if n < 1000000000000 {
+        return 8 + short_width(n / 100000000);
+    }
+    if n < 10000000000000000 {
+        return 12 + short_width(n / 1000000000000);
+    }
+    16 + short_width(n / 10000000000000000)
+}
+
+// The digits from the last to the first.
+pub(crate) fn put_number(out: &mut [u8], at: usize, n: u64) -> usize
+    requires { ⌜ at + 20 ≤ length (now out) ⌝ }
+    ensures { λ r. ⌜ Put (now (out .entry)) at (decimal n) (now (out .exit)) r × (r ≤ at + 20) ⌝ }
+{
+    let end = at + width(n);
+    let mut i = end;
+    let mut rest = n;
+    while 10 <= rest {
+        i -= 1;
+        out[i] = 48 + (rest % 10) as u8;
+        rest /= 10;
+    }
+    out[at] = 48 + rest as u8;
+    end
+}

@@ -1,0 +1,129 @@
+-- An event that was read is in range, and encoded again it is the very bytes that were read: an event has one record.
+-- Assumes nothing.
+use Prim.Native.Nat.{ℕ, zero, suc, _+_, _-_, _*_, _/_, _%_, _^_, _≤_, _<_}
+use native.Mathlib.Nat.{zero-add, pow-suc}
+use native.Mathlib.Omega.{arith}
+use mathlib.Core.Path.{_≡_, refl, ap, sym, _∙_, subst}
+use mathlib.Core.Bool.{Bool, true, false}
+use mathlib.Core.List.{List, [], _∷_, _++_}
+use lib.Dec.{eqb}
+use lib.ListN.{length, getD, take, drop, length-drop}
+use lib.Seq.{take-suc, take-add, drop-drop, getD-drop}
+use borrow.Author.Tests.{eqb-true, eqb-false, ne-eqb}
+use Rattle.records.specs.Record.{description}
+use Rattle.rules.specs.Change.{Change, admit, wake, block, remove, tick}
+use Rattle.rules.specs.Turn.{Call}
+use Rattle.records.specs.declared.answers.Event.{Event}
+use Rattle.records.specs.declared.answers.Read.the-variants.{Event as Got}
+use Rattle.records.specs.Bytes.{AreBytes, number, bytesOf}
+use Rattle.records.specs.Record.{event, known, payload, tag, lengthSaid, time, asked, call, reading}
+use Rattle.records.specs.Answer.{eventSaid, readSpec}
+use Rattle.records.specs.Encode.{callOf, tagOf, fieldsOf, head, recordOf, sizeOf, Held, InRange}
+use Rattle.records.proofs.Tags.{Tag, is-admit, is-wake, is-block, is-remove, is-tick, tag-cases, payload-bounds, payload-admit, payload-naming, payload-tick}
+use Rattle.records.proofs.Exactly.{Whole, read-whole, asked-tag, read-size}
+
+byte-at : (s : List ℕ) (i : ℕ) → AreBytes s → getD s i 0 < 256
+byte-at [] i h = omega arith
+byte-at (b ∷ s) zero h = h .0
+byte-at (b ∷ s) (suc i) h = byte-at s i (h .1)
+
+cat : {a b c d : List ℕ} → a ≡ c → b ≡ d → a ++ b ≡ c ++ d
+cat e f = rw (e, f)
+
+module _ (s : List ℕ) where
+  -- two parts, one behind the other
+  part : (at a b : ℕ) → take a (drop at s) ++ take b (drop (at + a) s) ≡ take (a + b) (drop at s)
+  part at a b = ap (λ (l : List ℕ). take a (drop at s) ++ take b l) (sym (drop-drop a at s)) ∙ sym (take-add a b (drop at s))
+
+module _ (s : List ℕ) (h : AreBytes s) where
+  number-below : (w at : ℕ) → number s at w < 256 ^ w
+  number-below zero at = omega arith
+  number-below (suc w) at = omega (arith, number-below w at, byte-at s (at + w) h, pow-suc 256 w)
+
+  bytes-number : (w at : ℕ) → at + w ≤ length s → bytesOf w (number s at w) ≡ take w (drop at s)
+  bytes-number zero at p = refl
+  bytes-number (suc w) at p =
+      let n : ℕ = number s at w in
+      let b : ℕ = getD s (at + w) 0 in
+      let small : b < 256 = byte-at s (at + w) h in
+      let front : (n * 256 + b) / 256 ≡ n = omega arith in
+      let last : (n * 256 + b) % 256 ≡ b = omega arith in
+      let more : take (suc w) (drop at s) ≡ take w (drop at s) ++ (b ∷ []) =
+      take-suc (drop at s) w 0 (omega (arith, length-drop at s))
+      ∙ ap (λ (x : ℕ). take w (drop at s) ++ (x ∷ [])) (getD-drop at s w 0) in
+      rw (front, last, bytes-number w at (omega arith)) (sym more)
+
+  -- one byte at a fixed place
+  byte-number : (at n : ℕ) → number s at 1 ≡ n → at + 1 ≤ length s → bytesOf 1 n ≡ take 1 (drop at s)
+  byte-number at n e p = ap (bytesOf 1) (sym e) ∙ bytes-number 1 at p
+
+  head-again : 11 ≤ length s → head (tag s) (lengthSaid s) (time s) ≡ take 11 s
+  unfolding head
+  head-again p =
+      cat (byte-number 0 (tag s) (zero-add (tag s)) (omega arith)) (cat (bytes-number 2 1 (omega arith)) (bytes-number 8 3 (omega arith)))
+      ∙ ap (λ (l : List ℕ). take 1 s ++ l) (part s 1 2 8)
+      ∙ part s 0 1 10
+
+  admit-again : 23 ≤ length s → fieldsOf (admit (description s)) ≡ take 12 (drop 11 s)
+  admit-again p =
+      cat (bytes-number 3 11 (omega arith))
+      (cat (bytes-number 4 14 (omega arith))
+      (cat (bytes-number 4 18 (omega arith)) (byte-number 22 (getD s 22 0) (zero-add (getD s 22 0)) (omega arith)) ∙ part s 18 4 1)
+      ∙ part s 14 4 5)
+      ∙ part s 11 3 9
+
+  fields-again : (k m : ℕ) → Tag k → 3 + payload k ≤ length s → 11 + m ≡ 3 + payload k → fieldsOf (asked k s) ≡ take m (drop 11 s)
+  fields-again k m (is-admit e) p q =
+      let n : m ≡ 12 = omega (arith, payload-admit k e) in
+      rw (e, n) (admit-again (omega (arith, payload-admit k e)))
+  fields-again k m (is-wake e) p q =
+      let n : m ≡ 3 = omega (arith, payload-naming k (omega arith) (omega arith)) in
+      rw (e, n) (bytes-number 3 11 (omega (arith, payload-naming k (omega arith) (omega arith))))
+  fields-again k m (is-block e) p q =
+      let n : m ≡ 3 = omega (arith, payload-naming k (omega arith) (omega arith)) in
+      rw (e, n) (bytes-number 3 11 (omega (arith, payload-naming k (omega arith) (omega arith))))
+  fields-again k m (is-remove e) p q =
+      let n : m ≡ 3 = omega (arith, payload-naming k (omega arith) (omega arith)) in
+      rw (e, n) (bytes-number 3 11 (omega (arith, payload-naming k (omega arith) (omega arith))))
+  fields-again k m (is-tick e) p q =
+      let n : m ≡ 0 = omega (arith, payload-tick k e) in
+      rw (e, n)
+
+  record-again : known (tag s) ≡ true → lengthSaid s ≡ payload (tag s) → 3 + payload (tag s) ≤ length s
+      → recordOf (call s) ≡ take (3 + payload (tag s)) s
+  unfolding recordOf call
+  record-again k l p =
+      let g : tagOf (asked (tag s) s) ≡ tag s = asked-tag (tag s) s (tag-cases (tag s) k) in
+      let m : ℕ = payload (tag s) - 8 in
+      let sum : 11 + m ≡ 3 + payload (tag s) = omega (arith, payload-bounds (tag s)) in
+      let front : head (tagOf (asked (tag s) s)) (payload (tagOf (asked (tag s) s))) (time s) ≡ take 11 s =
+      ap (λ (n : ℕ). head n (payload n) (time s)) g
+      ∙ ap (λ (n : ℕ). head (tag s) n (time s)) (sym l)
+      ∙ head-again (omega (arith, payload-bounds (tag s))) in
+      cat front (fields-again (tag s) m (tag-cases (tag s) k) p sum) ∙ part s 0 11 m ∙ ap (λ (n : ℕ). take n s) sum
+
+  held-again : (k : ℕ) → Tag k → Held (asked k s)
+  held-again k (is-admit e) = rw e (number-below 3 11, number-below 4 14, number-below 4 18, byte-at s 22 h)
+  held-again k (is-wake e) = rw e (number-below 3 11)
+  held-again k (is-block e) = rw e (number-below 3 11)
+  held-again k (is-remove e) = rw e (number-below 3 11)
+  held-again k (is-tick e) = rw e tt
+
+values-again : (n : ℕ) (a : Change) → callOf (eventSaid (record { now = n; asked = a })) ≡ record { now = n; asked = a }
+values-again n (admit d) = refl
+values-again n (wake t) = refl
+values-again n (block t) = refl
+values-again n (remove t) = refl
+values-again n tick = refl
+
+-- what was read is in range, and its record is the bytes that were read
+pub read-again : (s : List ℕ) (e : Event) → AreBytes s → readSpec s ≡ Got e
+    → InRange (callOf e) × (recordOf (callOf e) ≡ take (sizeOf e) s)
+unfolding call
+read-again s e h r =
+    let w : Whole s e = read-whole s e r in
+    let v : callOf e ≡ call s = ap callOf (w .same) ∙ values-again (call s .now) (call s .asked) in
+    let n : sizeOf e ≡ 3 + payload (tag s) = read-size s e r .0 in (
+      subst InRange (sym v) (number-below s h 8 3, held-again s h (tag s) (tag-cases (tag s) (w .known-tag))),
+      ap recordOf v ∙ record-again s h (w .known-tag) (w .said) (w .fits) ∙ ap (λ (k : ℕ). take k s) (sym n),
+    )

@@ -1,0 +1,159 @@
+-- What the encoder writes reads back, for every event in range, whatever lies behind it; and its bytes are bytes.
+-- Assumes nothing.
+use Prim.Native.Nat.{ℕ, _+_, _%_, _^_, _≤_, _<_}
+use native.Mathlib.Omega.{arith}
+use mathlib.Core.Path.{_≡_, refl, ap, sym, _∙_}
+use mathlib.Core.Bool.{Bool, true, false}
+use mathlib.Core.List.{List, [], _∷_, _++_}
+use lib.ListN.{length, take, drop, length-append, take-append-drop}
+use lib.Seq.{length-take-le}
+use lib.Dec.{leb}
+use borrow.Author.Tests.{le-leb, leb-true, leb-false}
+use Rattle.rules.specs.Limits.{largestTunnel}
+use Rattle.rules.specs.Vcpu.{Description}
+use Rattle.rules.specs.Change.{Change, admit, wake, block, remove, tick}
+use Rattle.rules.specs.Turn.{Call}
+use Rattle.records.specs.declared.answers.Event.{Event}
+use Rattle.records.specs.declared.answers.Event.the-variants.{Admit, Wake, Block, Remove, Tick}
+use Rattle.records.specs.declared.answers.Read.the-variants.{Event as Got}
+use Rattle.records.specs.Bytes.{AreBytes, number, bytesOf}
+use Rattle.records.specs.Record.{event, known, payload, tag, lengthSaid, time, identifier, description, asked, call, reading, waits}
+use Rattle.records.specs.Answer.{eventSaid, refusal, readSpec}
+use Rattle.records.specs.Encode.{callOf, tagOf, fieldsOf, head, recordOf, sizeOf, Held, InRange, narrow, goes, writtenSize, written}
+use Rattle.records.proofs.Digits.{number-field, bytes-below, bytes-then}
+use Rattle.records.proofs.Cases.{whole-record, answers}
+use Rattle.records.proofs.Written.{length-record, record-tag, record-known, record-said, it-goes}
+use Rattle.records.proofs.Behind.{tag-append, said-append, waits-header, waits-short, read-waits}
+
+same-terms : (d : Description) {i p c u : ℕ} → i ≡ d .tunnel → p ≡ d .period → c ≡ d .capacity → u ≡ d .priority
+    → _≡_ {A = Description} (record { tunnel = i; period = p; capacity = c; priority = u }) d
+same-terms d e f g h = rw (e, f, g, h)
+
+same-call : (c : Call) {n : ℕ} {a : Change} → n ≡ c .now → a ≡ c .asked → _≡_ {A = Call} (record { now = n; asked = a }) c
+same-call c e f = rw (e, f)
+
+module _ (now : ℕ) (t : List ℕ) where
+  whole : Change → List ℕ
+  whole a = recordOf (record { now = now; asked = a }) ++ t
+
+  time-back : (a : Change) → now < 256 ^ 8 → time (whole a) ≡ now
+  unfolding whole recordOf head payload
+  time-back (admit d) h = number-field (1 ∷ 0 ∷ 20 ∷ []) (fieldsOf (admit d) ++ t) 8 now h
+  time-back (wake i) h = number-field (2 ∷ 0 ∷ 11 ∷ []) (fieldsOf (wake i) ++ t) 8 now h
+  time-back (block i) h = number-field (3 ∷ 0 ∷ 11 ∷ []) (fieldsOf (block i) ++ t) 8 now h
+  time-back (remove i) h = number-field (4 ∷ 0 ∷ 11 ∷ []) (fieldsOf (remove i) ++ t) 8 now h
+  time-back tick h = number-field (5 ∷ 0 ∷ 8 ∷ []) t 8 now h
+
+  -- the identifier that follows the head
+  named-back : (tag size i : ℕ) (b : List ℕ) → i < 256 ^ 3 → identifier (head tag size now ++ (bytesOf 3 i ++ b)) ≡ i
+  unfolding head
+  named-back tag size i b h = number-field (head tag size now) b 3 i h
+
+  described-back : (d : Description) → Held (admit d) → description (whole (admit d)) ≡ d
+  unfolding whole recordOf head payload
+  described-back d h =
+      let a : List ℕ = head 1 20 now in
+      let p : List ℕ = bytesOf 4 (d .period) in
+      let c : List ℕ = bytesOf 4 (d .capacity) in
+      let u : List ℕ = bytesOf 1 (d .priority) in
+      let i : identifier (whole (admit d)) ≡ d .tunnel = number-field a (p ++ (c ++ (u ++ t))) 3 (d .tunnel) (h .0) in
+      let e : number (whole (admit d)) 14 4 ≡ d .period = number-field (a ++ bytesOf 3 (d .tunnel)) (c ++ (u ++ t)) 4 (d .period) (h .1) in
+      let f : number (whole (admit d)) 18 4 ≡ d .capacity = number-field (a ++ (bytesOf 3 (d .tunnel) ++ p)) (u ++ t) 4 (d .capacity) (h .2) in
+      let g : d .priority % 256 ≡ d .priority = omega (arith, h .3) in
+      same-terms d i e f g
+
+  asked-back : (a : Change) → Held a → asked (tagOf a) (whole a) ≡ a
+  unfolding whole recordOf head payload
+  asked-back (admit d) h = ap admit (described-back d h)
+  asked-back (wake i) h = ap wake (named-back 2 11 i t h)
+  asked-back (block i) h = ap block (named-back 3 11 i t h)
+  asked-back (remove i) h = ap remove (named-back 4 11 i t h)
+  asked-back tick h = refl
+
+-- what is encoded reads back, whatever lies behind it
+pub reads-back : (c : Call) → InRange c → (t : List ℕ) → reading (recordOf c ++ t) ≡ event c
+unfolding call whole
+reads-back c h t =
+    let s : List ℕ = whole (c .now) t (c .asked) in
+    let long : 3 ≤ length (recordOf c) = omega (arith, length-record c) in
+    let g : tag s ≡ tagOf (c .asked) = tag-append (recordOf c) t long ∙ record-tag c in
+    let k : known (tag s) ≡ true = ap known g ∙ record-known (c .asked) in
+    let l : lengthSaid s ≡ payload (tag s) = said-append (recordOf c) t long ∙ record-said c ∙ ap payload (sym g) in
+    let p : 3 + payload (tag s) ≤ length s = omega (arith, ap payload g, length-record c, length-append (recordOf c) t) in
+    let a : asked (tag s) s ≡ c .asked = ap (λ (n : ℕ). asked n s) g ∙ asked-back (c .now) t (c .asked) (h .1) in
+    whole-record s k l p ∙ ap event (same-call c (time-back (c .now) t (c .asked) (h .0)) a)
+
+-- an event is what its own values say
+pub said-again : (e : Event) → eventSaid (callOf e) ≡ e
+said-again (Admit m d) = refl
+said-again (Wake m i) = refl
+said-again (Block m i) = refl
+said-again (Remove m i) = refl
+said-again (Tick m) = refl
+
+pub event-reads-back : (e : Event) → InRange (callOf e) → (t : List ℕ) → readSpec (recordOf (callOf e) ++ t) ≡ Got e
+event-reads-back e h t = answers (recordOf (callOf e) ++ t) (event (callOf e)) (reads-back (callOf e) h t) ∙ ap Got (said-again e)
+
+fields-below : (a : Change) → AreBytes (fieldsOf a)
+fields-below (admit d) =
+    let c : List ℕ = bytesOf 4 (d .capacity) ++ bytesOf 1 (d .priority) in
+    let p : List ℕ = bytesOf 4 (d .period) ++ c in
+    bytes-then 3 (d .tunnel) p
+    (bytes-then 4 (d .period) c (bytes-then 4 (d .capacity) (bytesOf 1 (d .priority)) (bytes-below 1 (d .priority))))
+fields-below (wake i) = bytes-below 3 i
+fields-below (block i) = bytes-below 3 i
+fields-below (remove i) = bytes-below 3 i
+fields-below tick = tt
+
+-- the bytes of a record are bytes
+pub record-bytes : (c : Call) → AreBytes (recordOf c)
+unfolding recordOf head
+record-bytes c =
+    let n : ℕ = tagOf (c .asked) in
+    let f : List ℕ = fieldsOf (c .asked) in
+    bytes-then 1 n (bytesOf 2 (payload n) ++ (bytesOf 8 (c .now) ++ f))
+    (bytes-then 2 (payload n) (bytesOf 8 (c .now) ++ f) (bytes-then 8 (c .now) f (fields-below (c .asked))))
+
+held-narrow : (a : Change) → Held a → narrow a ≡ true
+held-narrow (admit d) h = le-leb (d .tunnel) largestTunnel (omega (arith, h .0))
+held-narrow (wake i) h = le-leb i largestTunnel (omega arith)
+held-narrow (block i) h = le-leb i largestTunnel (omega arith)
+held-narrow (remove i) h = le-leb i largestTunnel (omega arith)
+held-narrow tick h = refl
+
+-- what `write` leaves reads back, for every event in range and any room that is large enough
+pub written-reads-back : (e : Event) (out : List ℕ) → InRange (callOf e) → sizeOf e ≤ length out
+    → (writtenSize e out ≡ sizeOf e) × (readSpec (written e out) ≡ Got e)
+unfolding writtenSize written
+written-reads-back e out h r =
+    let g : goes e out ≡ true = it-goes e out (held-narrow (callOf e .asked) (h .1)) r in
+    (rw g, rw g (event-reads-back e h (drop (sizeOf e) out)))
+
+-- a proper part of a record waits for the rest
+pub part-waits : (c : Call) (k : ℕ) → k < length (recordOf c) → waits (take k (recordOf c)) ≡ true
+part-waits c k h = go (leb 3 k) refl
+  where
+    r : List ℕ
+    r = recordOf c
+
+    s : List ℕ
+    s = take k r
+
+    t : List ℕ
+    t = drop k r
+
+    size : length s ≡ k
+    size = length-take-le k r (omega arith)
+
+    go : (b : Bool) → leb 3 k ≡ b → waits s ≡ true
+    go false b = waits-header s (omega (arith, size, leb-false 3 k b))
+    go true b =
+        let long : 3 ≤ length s = omega (arith, size, leb-true 3 k b) in
+        let same : s ++ t ≡ r = take-append-drop k r in
+        let g : tag s ≡ tagOf (c .asked) = sym (tag-append s t long) ∙ ap tag same ∙ record-tag c in
+        let e : lengthSaid s ≡ payload (tag s) = sym (said-append s t long) ∙ ap lengthSaid same ∙ record-said c ∙ ap payload (sym g) in
+        waits-short s long (ap known g ∙ record-known (c .asked)) e (omega (arith, size, ap payload g, length-record c))
+
+-- a proper part of a record is answered by 20
+pub part-read : (c : Call) (k : ℕ) → k < length (recordOf c) → readSpec (take k (recordOf c)) ≡ refusal 20
+part-read c k h = read-waits (take k (recordOf c)) (part-waits c k h)

@@ -1,0 +1,200 @@
+-- When more bytes can change the answer: bytes behind a whole record, an unknown tag or another length are not looked at; a header or
+-- a payload that is short gives 20 and waits, and there more bytes do change it. Assumes nothing.
+use Prim.Native.Nat.{ℕ, zero, suc, _+_, _≤_, _<_}
+use native.Mathlib.Omega.{arith}
+use mathlib.Core.Path.{_≡_, refl, ap, sym, _∙_, subst}
+use mathlib.Core.Bool.{Bool, true, false, cond, not, _&&_, _||_}
+use mathlib.Core.List.{List, [], _∷_, _++_}
+use mathlib.Core.Logic.{_⊎_, inl, inr, _↔_}
+use lib.Dec.{leb, ltb, eqb}
+use lib.ListN.{length, getD, take, replicate, length-append, length-replicate, List·getD-append}
+use lib.Seq.{length-take-le, getD-take}
+use borrow.Author.Tests.{ltb-true, ltb-false, eqb-true, eqb-false, lt-ltb, le-ltb, eq-eqb, ne-eqb}
+use Rattle.rules.proofs.Tests.{and-true, clash}
+use Rattle.rules.specs.Change.{Change, admit, wake, block, remove, tick}
+use Rattle.rules.specs.Turn.{Call}
+use Rattle.records.specs.declared.answers.Event.{Event}
+use Rattle.records.specs.declared.answers.Read.{Read}
+use Rattle.records.specs.declared.answers.Read.the-variants.{Event as Got, No}
+use Rattle.records.specs.Bytes.{AreBytes, number}
+use Rattle.records.specs.Record.{Reading, event, no, known, payload, tag, lengthSaid, time, identifier, description, asked, call, reading, waits}
+use Rattle.records.specs.Answer.{refusal, readSaid, readSpec}
+use Rattle.records.proofs.Digits.{number-append}
+use Rattle.records.proofs.Tags.{Tag, is-admit, is-wake, is-block, is-remove, is-tick, tag-cases, payload-bounds, payload-admit, payload-naming}
+use Rattle.records.proofs.Cases.{short-header, unknown-tag, other-length, short-payload, whole-record, answers}
+
+-- the five cases, told apart by what the first bytes are
+pub data Case (s : List ℕ) : Type 0 where
+  header : length s < 3 → Case s
+  unknown : 3 ≤ length s → known (tag s) ≡ false → Case s
+  other : 3 ≤ length s → known (tag s) ≡ true → (lengthSaid s ≡ payload (tag s) → ⊥) → Case s
+  short : 3 ≤ length s → known (tag s) ≡ true → lengthSaid s ≡ payload (tag s) → length s < 3 + payload (tag s) → Case s
+  whole : 3 ≤ length s → known (tag s) ≡ true → lengthSaid s ≡ payload (tag s) → 3 + payload (tag s) ≤ length s → Case s
+
+pub case : (s : List ℕ) → Case s
+case s = first (ltb (length s) 3) refl
+  where
+    fourth : 3 ≤ length s → known (tag s) ≡ true → lengthSaid s ≡ payload (tag s) → (b : Bool) → ltb (length s) (3 + payload (tag s)) ≡ b → Case s
+    fourth h k e true f = short h k e (ltb-true (length s) (3 + payload (tag s)) f)
+    fourth h k e false f = whole h k e (ltb-false (length s) (3 + payload (tag s)) f)
+
+    third : 3 ≤ length s → known (tag s) ≡ true → (b : Bool) → eqb (lengthSaid s) (payload (tag s)) ≡ b → Case s
+    third h k true f = fourth h k (eqb-true (lengthSaid s) (payload (tag s)) f) (ltb (length s) (3 + payload (tag s))) refl
+    third h k false f = other h k (eqb-false (lengthSaid s) (payload (tag s)) f)
+
+    second : 3 ≤ length s → (b : Bool) → known (tag s) ≡ b → Case s
+    second h true f = third h f (eqb (lengthSaid s) (payload (tag s))) refl
+    second h false f = unknown h f
+
+    first : (b : Bool) → ltb (length s) 3 ≡ b → Case s
+    first true f = header (ltb-true (length s) 3 f)
+    first false f = second (ltb-false (length s) 3 f) (known (tag s)) refl
+
+-- where more bytes can change the answer, and where not
+module _ (s : List ℕ) where
+  pub waits-header : length s < 3 → waits s ≡ true
+  unfolding waits
+  waits-header h = rw (lt-ltb (length s) 3 h)
+
+  pub waits-short : 3 ≤ length s → known (tag s) ≡ true → lengthSaid s ≡ payload (tag s) → length s < 3 + payload (tag s) → waits s ≡ true
+  unfolding waits
+  waits-short h k e p = rw (le-ltb (length s) 3 h, k, eq-eqb (lengthSaid s) (payload (tag s)) e, lt-ltb (length s) (3 + payload (tag s)) p)
+
+  settled-unknown : 3 ≤ length s → known (tag s) ≡ false → waits s ≡ false
+  unfolding waits
+  settled-unknown h k = rw (le-ltb (length s) 3 h, k)
+
+  settled-other : 3 ≤ length s → known (tag s) ≡ true → (lengthSaid s ≡ payload (tag s) → ⊥) → waits s ≡ false
+  unfolding waits
+  settled-other h k n = rw (le-ltb (length s) 3 h, k, ne-eqb (lengthSaid s) (payload (tag s)) n)
+
+  settled-whole : 3 ≤ length s → known (tag s) ≡ true → lengthSaid s ≡ payload (tag s) → 3 + payload (tag s) ≤ length s → waits s ≡ false
+  unfolding waits
+  settled-whole h k e p = rw (le-ltb (length s) 3 h, k, eq-eqb (lengthSaid s) (payload (tag s)) e, le-ltb (length s) (3 + payload (tag s)) p)
+
+same-call : {n m : ℕ} {a b : Change} → n ≡ m → a ≡ b → _≡_ {A = Call} (record { now = n; asked = a }) (record { now = m; asked = b })
+same-call e f = rw (e, f)
+
+module _ (s t : List ℕ) where
+  pub tag-append : 3 ≤ length s → tag (s ++ t) ≡ tag s
+  tag-append h = List·getD-append s t 0 0 (omega arith)
+
+  pub said-append : 3 ≤ length s → lengthSaid (s ++ t) ≡ lengthSaid s
+  said-append h = number-append 2 1 s t (omega arith)
+
+  described-append : 23 ≤ length s → description (s ++ t) ≡ description s
+  described-append h =
+      rw (
+        number-append 3 11 s t (omega arith),
+        number-append 4 14 s t (omega arith),
+        number-append 4 18 s t (omega arith),
+        List·getD-append s t 0 22 (omega arith),
+      )
+
+  named-append : 14 ≤ length s → identifier (s ++ t) ≡ identifier s
+  named-append h = number-append 3 11 s t (omega arith)
+
+  asked-append : (k : ℕ) → Tag k → 3 + payload k ≤ length s → asked k (s ++ t) ≡ asked k s
+  asked-append k (is-admit e) p = rw e (ap admit (described-append (omega (arith, payload-admit k e))))
+  asked-append k (is-wake e) p = rw e (ap wake (named-append (omega (arith, payload-naming k (omega arith) (omega arith)))))
+  asked-append k (is-block e) p = rw e (ap block (named-append (omega (arith, payload-naming k (omega arith) (omega arith)))))
+  asked-append k (is-remove e) p = rw e (ap remove (named-append (omega (arith, payload-naming k (omega arith) (omega arith)))))
+  asked-append k (is-tick e) p = rw e
+
+  call-append : known (tag s) ≡ true → 3 + payload (tag s) ≤ length s → call (s ++ t) ≡ call s
+  unfolding call
+  call-append k p =
+      let g : tag (s ++ t) ≡ tag s = tag-append (omega arith) in
+      let m : time (s ++ t) ≡ time s = number-append 8 3 s t (omega (arith, payload-bounds (tag s))) in
+      same-call m (ap (λ (n : ℕ). asked n (s ++ t)) g ∙ asked-append (tag s) (tag-cases (tag s) k) p)
+
+  append-case : Case s → waits s ≡ false → reading (s ++ t) ≡ reading s
+  append-case (header h) w = clash (sym (waits-header s h) ∙ w)
+  append-case (unknown h k) w =
+      unknown-tag (s ++ t) (omega (arith, length-append s t)) (ap known (tag-append h) ∙ k) ∙ sym (unknown-tag s h k)
+  append-case (other h k n) w =
+      let g : tag (s ++ t) ≡ tag s = tag-append h in
+      other-length (s ++ t) (omega (arith, length-append s t)) (ap known g ∙ k) (λ e. n (sym (said-append h) ∙ e ∙ ap payload g))
+      ∙ sym (other-length s h k n)
+  append-case (short h k e p) w = clash (sym (waits-short s h k e p) ∙ w)
+  append-case (whole h k e p) w =
+      let g : tag (s ++ t) ≡ tag s = tag-append h in
+      whole-record (s ++ t) (ap known g ∙ k) (said-append h ∙ e ∙ ap payload (sym g)) (omega (arith, ap payload g, length-append s t))
+      ∙ ap event (call-append k p)
+      ∙ sym (whole-record s k e p)
+
+-- "Bytes behind a whole record aren't looked at", nor behind an unknown tag or another length
+pub behind : (s t : List ℕ) → waits s ≡ false → reading (s ++ t) ≡ reading s
+behind s t w = append-case s t (case s) w
+
+pub read-behind : (s t : List ℕ) → waits s ≡ false → readSpec (s ++ t) ≡ readSpec s
+unfolding readSpec
+read-behind s t w = ap readSaid (behind s t w)
+
+waits-20 : (s : List ℕ) → Case s → waits s ≡ true → reading s ≡ no 20
+waits-20 s (header h) w = short-header s h
+waits-20 s (unknown h k) w = clash (sym w ∙ settled-unknown s h k)
+waits-20 s (other h k n) w = clash (sym w ∙ settled-other s h k n)
+waits-20 s (short h k e p) w = short-payload s h k e p
+waits-20 s (whole h k e p) w = clash (sym w ∙ settled-whole s h k e p)
+
+-- what waits is answered by 20
+pub read-waits : (s : List ℕ) → waits s ≡ true → readSpec s ≡ refusal 20
+read-waits s w = answers s (no 20) (waits-20 s (case s) w)
+
+zeros : (n : ℕ) → AreBytes (replicate n 0)
+zeros zero = tt
+zeros (suc n) = (omega arith, zeros n)
+
+-- the number of an answer, 0 of an event
+unfoldable pub told : Read → ℕ
+told (Got e) = 0
+told (No r) = r .number
+
+third-zero : (s : List ℕ) → length s < 3 → getD (s ++ replicate 20 0) 2 0 ≡ 0
+third-zero [] h = refl
+third-zero (a ∷ []) h = refl
+third-zero (a ∷ b ∷ []) h = refl
+third-zero (a ∷ b ∷ c ∷ s) h = absurd (omega arith)
+
+header-changes : (s : List ℕ) → length s < 3 → told (readSpec (s ++ replicate 20 0)) ≡ 20 → ⊥
+unfolding told
+header-changes s h = go (known (tag x)) refl
+  where
+    x : List ℕ
+    x = s ++ replicate 20 0
+
+    long : 3 ≤ length x
+    long = omega (arith, length-append s (replicate 20 0))
+
+    other-said : lengthSaid x ≡ payload (tag x) → ⊥
+    other-said e = omega (arith, third-zero s h, payload-bounds (tag x))
+
+    go : (k : Bool) → known (tag x) ≡ k → told (readSpec x) ≡ 20 → ⊥
+    go true k n = omega (arith, ap told (answers x (no 22) (other-length x long k other-said)))
+    go false k n = omega (arith, ap told (answers x (no 21) (unknown-tag x long k)))
+
+waits-changes : (s : List ℕ) → Case s → waits s ≡ true → told (readSpec (s ++ replicate 20 0)) ≡ 20 → ⊥
+unfolding told
+waits-changes s (header h) w n = header-changes s h n
+waits-changes s (unknown h k) w n = clash (sym w ∙ settled-unknown s h k)
+waits-changes s (other h k d) w n = clash (sym w ∙ settled-other s h k d)
+waits-changes s (short h k e p) w n =
+    let t : List ℕ = replicate 20 0 in
+    let x : List ℕ = s ++ t in
+    let g : tag x ≡ tag s = tag-append s t h in
+    let l : 3 + payload (tag x) ≤ length x = omega (arith, ap payload g, payload-bounds (tag s), length-append s t) in
+    omega (arith, ap told (answers x (event (call x)) (whole-record x (ap known g ∙ k) (said-append s t h ∙ e ∙ ap payload (sym g)) l)))
+waits-changes s (whole h k e p) w n = clash (sym w ∙ settled-whole s h k e p)
+
+-- the answer waits exactly where bytes exist that change it
+pub waits-exactly : (s : List ℕ) → waits s ≡ true ↔ ((t : List ℕ) × AreBytes t × (readSpec (s ++ t) ≡ readSpec s → ⊥))
+unfolding told
+waits-exactly s = (
+  (λ w. (replicate 20 0, zeros 20, λ e. waits-changes s (case s) w (ap told (e ∙ read-waits s w)))),
+  λ x. go (waits s) refl x,
+)
+  where
+    go : (b : Bool) → waits s ≡ b → ((t : List ℕ) × AreBytes t × (readSpec (s ++ t) ≡ readSpec s → ⊥)) → b ≡ true
+    go true w x = refl
+    go false w x = absurd (x .2 (read-behind s (x .0) w))

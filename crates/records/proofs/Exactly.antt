@@ -1,0 +1,87 @@
+-- When each answer is given: 20 exactly where reading waits, 21 for the tags that are kept, and an event with its whole record there,
+-- of as many bytes as `size` says. Assumes nothing.
+use Prim.Native.Nat.{ℕ, _+_, _≤_, _<_}
+use native.Mathlib.Omega.{arith}
+use mathlib.Core.Path.{_≡_, refl, ap, sym, _∙_}
+use mathlib.Core.Bool.{Bool, true, false, cond}
+use mathlib.Core.List.{List}
+use mathlib.Core.Logic.{_⊎_, inl, inr, _↔_}
+use lib.Dec.{eqb}
+use lib.ListN.{length}
+use borrow.Author.Tests.{eqb-true, eqb-false}
+use Rattle.rules.proofs.Tests.{clash}
+use Rattle.rules.specs.Change.{Change, admit, wake, block, remove, tick}
+use Rattle.rules.specs.Turn.{Call}
+use Rattle.records.specs.declared.answers.Event.{Event}
+use Rattle.records.specs.declared.answers.Read.{Read}
+use Rattle.records.specs.declared.answers.Read.the-variants.{Event as Got, No}
+use Rattle.records.specs.Record.{Reading, event, no, known, payload, tag, lengthSaid, asked, call, reading, waits}
+use Rattle.records.specs.Answer.{eventSaid, refusal, readSaid, readSpec}
+use Rattle.records.specs.Encode.{callOf, tagOf, sizeOf}
+use Rattle.records.proofs.Tags.{Tag, is-admit, is-wake, is-block, is-remove, is-tick, tag-cases, known-not}
+use Rattle.records.proofs.Cases.{short-header, unknown-tag, other-length, short-payload, whole-record, answers}
+use Rattle.records.proofs.Behind.{Case, header, unknown, other, short, whole, case, told, waits-header, waits-short, read-waits}
+
+-- "Tags 6 and 7 are kept for device work and are unknown until it is asked for"
+pub kept-tags : (s : List ℕ) → 3 ≤ length s → (tag s ≡ 6) ⊎ (tag s ≡ 7) → readSpec s ≡ refusal 21
+kept-tags s h (inl e) = answers s (no 21) (unknown-tag s h (known-not (tag s) (λ a b. omega arith)))
+kept-tags s h (inr e) = answers s (no 21) (unknown-tag s h (known-not (tag s) (λ a b. omega arith)))
+
+twenty-waits : (s : List ℕ) → Case s → readSpec s ≡ refusal 20 → waits s ≡ true
+unfolding told
+twenty-waits s (header h) r = waits-header s h
+twenty-waits s (unknown h k) r = absurd (omega (arith, ap told (sym r ∙ answers s (no 21) (unknown-tag s h k))))
+twenty-waits s (other h k n) r = absurd (omega (arith, ap told (sym r ∙ answers s (no 22) (other-length s h k n))))
+twenty-waits s (short h k e p) r = waits-short s h k e p
+twenty-waits s (whole h k e p) r = absurd (omega (arith, ap told (sym r ∙ answers s (event (call s)) (whole-record s k e p))))
+
+-- 20 is given exactly where more bytes can change the answer
+pub twenty-exactly : (s : List ℕ) → readSpec s ≡ refusal 20 ↔ waits s ≡ true
+twenty-exactly s = (λ r. twenty-waits s (case s) r, λ w. read-waits s w)
+
+got-same : {e f : Event} → Got e ≡ Got f → e ≡ f
+got-same r = cc
+
+pub asked-tag : (k : ℕ) (s : List ℕ) → Tag k → tagOf (asked k s) ≡ k
+asked-tag k s (is-admit e) = rw e
+asked-tag k s (is-wake e) = rw e
+asked-tag k s (is-block e) = rw e
+asked-tag k s (is-remove e) = rw e
+asked-tag k s (is-tick e) = rw e
+
+said-tag : (n : ℕ) (a : Change) → tagOf (callOf (eventSaid (record { now = n; asked = a })) .asked) ≡ tagOf a
+said-tag n (admit d) = refl
+said-tag n (wake t) = refl
+said-tag n (block t) = refl
+said-tag n (remove t) = refl
+said-tag n tick = refl
+
+-- what stands in the bytes where an event was read
+pub record Whole (s : List ℕ) (e : Event) : Type 0 where
+  pub known-tag : known (tag s) ≡ true
+  pub said : lengthSaid s ≡ payload (tag s)
+  pub fits : 3 + payload (tag s) ≤ length s
+  pub same : e ≡ eventSaid (call s)
+
+whole-case : (s : List ℕ) (e : Event) → Case s → readSpec s ≡ Got e → Whole s e
+unfolding told
+whole-case s e (header h) r = absurd (omega (arith, ap told (sym r ∙ answers s (no 20) (short-header s h))))
+whole-case s e (unknown h k) r = absurd (omega (arith, ap told (sym r ∙ answers s (no 21) (unknown-tag s h k))))
+whole-case s e (other h k n) r = absurd (omega (arith, ap told (sym r ∙ answers s (no 22) (other-length s h k n))))
+whole-case s e (short h k l p) r = absurd (omega (arith, ap told (sym r ∙ answers s (no 20) (short-payload s h k l p))))
+whole-case s e (whole h k l p) r =
+    record { known-tag = k; said = l; fits = p; same = got-same (sym r ∙ answers s (event (call s)) (whole-record s k l p)) }
+
+pub read-whole : (s : List ℕ) (e : Event) → readSpec s ≡ Got e → Whole s e
+read-whole s e r = whole-case s e (case s) r
+
+-- an event's whole record is there, and has as many bytes as `size` says
+pub read-size : (s : List ℕ) (e : Event) → readSpec s ≡ Got e → (sizeOf e ≡ 3 + payload (tag s)) × (sizeOf e ≤ length s)
+unfolding call sizeOf
+read-size s e r =
+    let w : Whole s e = read-whole s e r in
+    let t : tagOf (callOf e .asked) ≡ tag s =
+    ap (λ (x : Event). tagOf (callOf x .asked)) (w .same)
+    ∙ said-tag (call s .now) (call s .asked)
+    ∙ asked-tag (tag s) s (tag-cases (tag s) (w .known-tag)) in
+    (ap (λ (n : ℕ). 3 + payload n) t, omega (arith, ap payload t, w .fits))

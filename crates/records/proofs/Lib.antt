@@ -1,0 +1,11 @@
+-- The laws that the functions' proofs cite, and the theorems. Assumes nothing.
+pub mod Tags
+pub mod Cases
+pub mod Laid
+pub mod Written
+pub mod Digits
+pub mod Back
+pub mod Behind
+pub mod Once
+pub mod Exactly
+pub mod Again

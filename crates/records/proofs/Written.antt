@@ -1,0 +1,88 @@
+-- Laws of what `write` leaves: the record at the front and the rest as it was, or all as it was.
+-- Assumes nothing.
+use Prim.Native.Nat.{ℕ, _+_, _≤_, _<_}
+use native.Mathlib.Nat.{zero-add}
+use native.Mathlib.Omega.{arith}
+use mathlib.Core.Path.{_≡_, refl, ap, sym, _∙_, subst}
+use mathlib.Core.Bool.{Bool, true, false, cond, _&&_}
+use mathlib.Core.List.{List, _++_}
+use lib.Dec.{leb}
+use lib.ListN.{length, drop, length-append}
+use borrow.Author.Tests.{le-leb, lt-leb}
+use Rattle.rules.specs.Change.{Change, admit, wake, block, remove, tick}
+use Rattle.rules.specs.Turn.{Call}
+use Rattle.records.specs.declared.answers.Event.{Event}
+use Rattle.records.specs.Record.{known, payload, tag, lengthSaid}
+use Rattle.records.specs.Encode.{callOf, tagOf, fieldsOf, head, recordOf, sizeOf, narrow, goes, writtenSize, written, laid}
+
+-- "admit, 20 bytes; wake, block, remove, 11 bytes each; tick, 8 bytes"
+pub length-record : (c : Call) → length (recordOf c) ≡ 3 + payload (tagOf (c .asked))
+unfolding recordOf head payload
+length-record c = go (c .asked)
+  where
+    go : (a : Change) → length (head (tagOf a) (payload (tagOf a)) (c .now) ++ fieldsOf a) ≡ 3 + payload (tagOf a)
+    go (admit d) = refl
+    go (wake t) = refl
+    go (block t) = refl
+    go (remove t) = refl
+    go tick = refl
+
+pub record-tag : (c : Call) → tag (recordOf c) ≡ tagOf (c .asked)
+unfolding recordOf head
+record-tag c = go (c .asked)
+  where
+    go : (a : Change) → tag (head (tagOf a) (payload (tagOf a)) (c .now) ++ fieldsOf a) ≡ tagOf a
+    go (admit d) = refl
+    go (wake t) = refl
+    go (block t) = refl
+    go (remove t) = refl
+    go tick = refl
+
+pub record-said : (c : Call) → lengthSaid (recordOf c) ≡ payload (tagOf (c .asked))
+unfolding recordOf head payload
+record-said c = go (c .asked)
+  where
+    go : (a : Change) → lengthSaid (head (tagOf a) (payload (tagOf a)) (c .now) ++ fieldsOf a) ≡ payload (tagOf a)
+    go (admit d) = refl
+    go (wake t) = refl
+    go (block t) = refl
+    go (remove t) = refl
+    go tick = refl
+
+pub record-known : (a : Change) → known (tagOf a) ≡ true
+unfolding known
+record-known (admit d) = refl
+record-known (wake t) = refl
+record-known (block t) = refl
+record-known (remove t) = refl
+record-known tick = refl
+
+module _ (e : Event) (out : List ℕ) where
+  pub kept : goes e out ≡ false → (0 ≡ writtenSize e out) × (out ≡ written e out)
+  unfolding writtenSize written
+  kept h = (rw h, rw h)
+
+  pub too-wide : narrow (callOf e .asked) ≡ false → goes e out ≡ false
+  unfolding goes
+  too-wide h = rw h
+
+  pub no-room : length out < sizeOf e → goes e out ≡ false
+  unfolding goes
+  no-room h = rw (lt-leb (sizeOf e) (length out) h) (go (narrow (callOf e .asked)))
+    where
+      go : (b : Bool) → b && false ≡ false
+      go true = refl
+      go false = refl
+
+  pub it-goes : narrow (callOf e .asked) ≡ true → sizeOf e ≤ length out → goes e out ≡ true
+  unfolding goes
+  it-goes n h = rw (n, le-leb (sizeOf e) (length out) h)
+
+  pub put-whole : (e′ : Event) (r : ℕ) (out′ : List ℕ) → e ≡ e′ → r ≡ sizeOf e → goes e out ≡ true
+      → out′ ≡ laid out 0 (recordOf (callOf e′)) → (r ≡ writtenSize e out) × (out′ ≡ written e out)
+  unfolding writtenSize written laid sizeOf
+  put-whole e′ r out′ same size h p =
+      let n : 0 + length (recordOf (callOf e)) ≡ sizeOf e = zero-add _ ∙ length-record (callOf e) in
+      let q : out′ ≡ recordOf (callOf e) ++ drop (0 + length (recordOf (callOf e))) out =
+      subst (λ (x : Event). out′ ≡ recordOf (callOf x) ++ drop (0 + length (recordOf (callOf x))) out) (sym same) p in
+      (rw h size, rw h (q ∙ ap (λ (k : ℕ). recordOf (callOf e) ++ drop k out) n))

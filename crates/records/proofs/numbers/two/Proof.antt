@@ -1,0 +1,26 @@
+-- `records::numbers::two` meets its contract: the two bytes, the first the larger part. Assumes nothing.
+use native.Mathlib.Omega.{arith}
+use borrow.Author.Needs.{needs}
+use Rattle.records.proofs.numbers.two.Statement.{statement}
+use Rattle.records.proofs.numbers.two.Tie as tie
+use Rattle.records.proofs.numbers.two.Reads as reads
+use Rattle.records.proofs.numbers.two.Lts as lts
+use Rattle.records.proofs.numbers.wide.Reads as wide-reads
+
+wide-requires : tie.Need-wide-requires
+wide-requires c κs = search needs
+
+mul-result : tie.Need-mul-result
+mul-result c = search needs
+
+wide-requires-2 : tie.Need-wide-requires-2
+wide-requires-2 c κs = search needs
+
+add-result : tie.Need-add-result
+add-result c = search needs
+
+returns : tie.Need-returns
+returns c = omega arith
+
+pub two-spec : {M : Type 1} → statement M
+two-spec = tie.close (tie.spec wide-requires mul-result wide-requires-2 add-result returns)

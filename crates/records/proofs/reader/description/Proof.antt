@@ -1,0 +1,48 @@
+-- `records::reader::description` meets its contract: each field is what its callee read. Assumes nothing.
+use borrow.Author.Needs.{needs}
+use Rattle.records.proofs.reader.description.Statement.{statement}
+use Rattle.records.proofs.reader.description.Tie as tie
+use Rattle.records.proofs.reader.description.Reads as reads
+use Rattle.records.proofs.reader.description.Lts as lts
+use Rattle.records.proofs.reader.capacity.Reads as capacity-reads
+use Rattle.records.proofs.reader.identifier.Reads as identifier-reads
+use Rattle.records.proofs.reader.period.Reads as period-reads
+use Rattle.units.proofs.Amount.new.Reads as Amount-new-reads
+use Rattle.units.proofs.Tunnel.new.Reads as Tunnel-new-reads
+
+identifier-requires : tie.Need-identifier-requires
+identifier-requires c κs = search needs
+
+new-requires : tie.Need-new-requires
+new-requires c κs = search needs
+
+period-requires : tie.Need-period-requires
+period-requires c κs = search needs
+
+new-requires-2 : tie.Need-new-requires-2
+new-requires-2 c κs = search needs
+
+capacity-requires : tie.Need-capacity-requires
+capacity-requires c κs = search needs
+
+new-requires-3 : tie.Need-new-requires-3
+new-requires-3 c κs = search needs
+
+shared-slice-read-t9 : tie.Need-shared-slice-read-t9
+shared-slice-read-t9 c = search needs
+
+returns : tie.Need-returns
+returns c = cc
+
+pub description-spec : {M : Type 1} → statement M
+description-spec =
+    tie.close
+    (tie.spec
+    identifier-requires
+    new-requires
+    period-requires
+    new-requires-2
+    capacity-requires
+    new-requires-3
+    shared-slice-read-t9
+    returns)

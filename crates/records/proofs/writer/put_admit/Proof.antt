@@ -1,0 +1,97 @@
+-- `records::writer::put_admit` meets its contract: the four fields are laid behind the head, one behind the other. Assumes nothing.
+use borrow.Author.Needs.{needs}
+use Prim.Native.Nat.{ℕ, _+_, _≤_}
+use native.Mathlib.Omega.{arith}
+use mathlib.Core.Path.{_≡_, refl, ap, sym, _∙_}
+use mathlib.Core.List.{List, [], _∷_, _++_}
+use Rattle.turns.specs.declared.Description.{Description}
+use Rattle.records.specs.Bytes.{bytesOf}
+use Rattle.records.specs.Encode.{head, laid}
+use Rattle.records.proofs.Laid.{laid-field}
+use Rattle.records.proofs.writer.put_admit.Statement.{statement}
+use Rattle.records.proofs.writer.put_admit.Tie as tie
+use Rattle.records.proofs.writer.put_admit.Reads as reads
+use Rattle.records.proofs.writer.put_admit.Lts as lts
+use Rattle.records.proofs.writer.put.Reads as put-reads
+use Rattle.records.proofs.writer.put_head.Reads as put-head-reads
+use Rattle.units.proofs.Amount.ticks.Reads as ticks-reads
+use Rattle.units.proofs.Tunnel.number.Reads as number-reads
+
+put-head-requires : tie.Need-put-head-requires
+put-head-requires c κs = search needs
+
+number-requires : tie.Need-number-requires
+number-requires c κs = search needs
+
+cast-put : tie.Need-cast-put
+cast-put c = search needs
+
+put-requires : tie.Need-put-requires
+put-requires c κs = search needs
+
+ticks-requires : tie.Need-ticks-requires
+ticks-requires c κs = search needs
+
+cast-put-2 : tie.Need-cast-put-2
+cast-put-2 c = search needs
+
+put-requires-2 : tie.Need-put-requires-2
+put-requires-2 c κs = search needs
+
+ticks-requires-2 : tie.Need-ticks-requires-2
+ticks-requires-2 c κs = search needs
+
+cast-put-3 : tie.Need-cast-put-3
+cast-put-3 c = search needs
+
+put-requires-3 : tie.Need-put-requires-3
+put-requires-3 c κs = search needs
+
+cast-put-4 : tie.Need-cast-put-4
+cast-put-4 c = search needs
+
+put-requires-4 : tie.Need-put-requires-4
+put-requires-4 c κs = search needs
+
+same-length : tie.Need-same-length
+same-length c = search needs
+
+returns : tie.Need-returns
+unfolding head
+returns c =
+    let s : List ℕ = c .before .before .before .before .before .before .before .before .before .before .before .before .before .before .before .before .before .before .before .before .before .before .before .before .before .before .before .before .args .out .now in
+    let d : Description = c .before .before .before .before .before .before .before .before .before .before .before .before .before .before .before .before .before .before .before .before .before .before .before .before .before .before .before .before .args .d in
+    let x₁ : List ℕ = head 1 20 (c .before .before .before .before .before .before .before .before .before .before .before .before .before .before .before .before .before .before .before .before .before .before .before .before .before .before .before .before .args .time .0) in
+    let x₂ : List ℕ = x₁ ++ bytesOf 3 (d .tunnel .0) in
+    let x₃ : List ℕ = x₂ ++ bytesOf 4 (d .period .0) in
+    let x₄ : List ℕ = x₃ ++ bytesOf 4 (d .capacity .0) in
+    let o₂ : c .before .before .before .before .before .before .before .before .before .before .before .before .before .before .before .before .before .put .last .0 ≡ laid s 0 x₂ =
+    laid-field s (c .before .before .before .before .before .before .before .before .before .before .before .before .before .before .before .before .before .before .before .before .before .before .put-head .last .0) (c .before .before .before .before .before .before .before .before .before .before .before .before .before .before .before .before .before .put .last .0) 11 x₁ 3 (c .before .before .before .before .before .before .before .before .before .before .before .before .before .before .before .before .before .before .number .result) (d .tunnel .0)
+    (c .before .before .before .before .before .before .before .before .before .before .before .before .before .before .before .before .before .before .number .ensures) refl (omega arith) (c .before .before .before .before .before .before .before .before .before .before .before .before .before .before .before .before .before .before .before .before .before .before .put-head .ensures) (c .before .before .before .before .before .before .before .before .before .before .before .before .before .before .before .before .before .put .ensures) in
+    let o₃ : c .before .before .before .before .before .before .before .before .before .before .before .before .put2 .last .0 ≡ laid s 0 x₃ =
+    laid-field s (c .before .before .before .before .before .before .before .before .before .before .before .before .before .before .before .before .before .put .last .0) (c .before .before .before .before .before .before .before .before .before .before .before .before .put2 .last .0) 14 x₂ 4 (c .before .before .before .before .before .before .before .before .before .before .before .before .before .ticks .result) (d .period .0)
+    (c .before .before .before .before .before .before .before .before .before .before .before .before .before .ticks .ensures) refl (omega arith) o₂ (c .before .before .before .before .before .before .before .before .before .before .before .before .put2 .ensures) in
+    let o₄ : c .before .before .before .before .before .before .before .put3 .last .0 ≡ laid s 0 x₄ =
+    laid-field s (c .before .before .before .before .before .before .before .before .before .before .before .before .put2 .last .0) (c .before .before .before .before .before .before .before .put3 .last .0) 18 x₃ 4 (c .before .before .before .before .before .before .before .before .ticks2 .result) (d .capacity .0)
+    (c .before .before .before .before .before .before .before .before .ticks2 .ensures) refl (omega arith) o₃ (c .before .before .before .before .before .before .before .put3 .ensures) in
+    laid-field s (c .before .before .before .before .before .before .before .put3 .last .0) (c .before .before .put4 .last .0) 22 x₄ 1 (d .priority) (d .priority)
+    refl refl (omega arith) o₄ (c .before .before .put4 .ensures)
+
+pub put-admit-spec : {M : Type 1} → statement M
+put-admit-spec =
+    tie.close
+    (tie.spec
+    put-head-requires
+    number-requires
+    cast-put
+    put-requires
+    ticks-requires
+    cast-put-2
+    put-requires-2
+    ticks-requires-2
+    cast-put-3
+    put-requires-3
+    cast-put-4
+    put-requires-4
+    same-length
+    returns)

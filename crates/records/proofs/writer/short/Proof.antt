@@ -1,0 +1,16 @@
+-- `records::writer::short` meets its contract: the identifier has 24 bits. Assumes nothing.
+use borrow.Author.Needs.{needs}
+use Rattle.records.proofs.writer.short.Statement.{statement}
+use Rattle.records.proofs.writer.short.Tie as tie
+use Rattle.records.proofs.writer.short.Reads as reads
+use Rattle.records.proofs.writer.short.Lts as lts
+use Rattle.units.proofs.Tunnel.number.Reads as number-reads
+
+number-requires : tie.Need-number-requires
+number-requires c κs = search needs
+
+returns : tie.Need-returns
+returns c = rw (c .number .ensures)
+
+pub short-spec : {M : Type 1} → statement M
+short-spec = tie.close (tie.spec number-requires returns)

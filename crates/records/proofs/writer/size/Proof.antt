@@ -1,0 +1,58 @@
+-- `records::writer::size` meets its contract: three bytes of header and the tag's payload. Assumes nothing.
+use Rattle.records.specs.Record.{payload}
+use Rattle.records.specs.Encode.{sizeOf}
+use borrow.Author.Needs.{needs}
+use Rattle.records.proofs.writer.size.Statement.{statement}
+use Rattle.records.proofs.writer.size.Tie as tie
+use Rattle.records.proofs.writer.size.Reads as reads
+use Rattle.records.proofs.writer.size.Lts as lts
+
+enum-told : tie.Need-enum-told
+enum-told c = search needs
+
+enum-told-2 : tie.Need-enum-told-2
+enum-told-2 c = search needs
+
+enum-told-3 : tie.Need-enum-told-3
+enum-told-3 c = search needs
+
+enum-told-4 : tie.Need-enum-told-4
+enum-told-4 c = search needs
+
+enum-told-5 : tie.Need-enum-told-5
+enum-told-5 c = search needs
+
+returns : tie.Need-returns
+unfolding sizeOf payload
+returns c = rw (c .enum-told .given .1)
+
+returns-2 : tie.Need-returns-2
+unfolding sizeOf payload
+returns-2 c = rw (c .enum-told2 .given .1)
+
+returns-3 : tie.Need-returns-3
+unfolding sizeOf payload
+returns-3 c = rw (c .enum-told3 .given .1)
+
+returns-4 : tie.Need-returns-4
+unfolding sizeOf payload
+returns-4 c = rw (c .enum-told4 .given .1)
+
+returns-5 : tie.Need-returns-5
+unfolding sizeOf payload
+returns-5 c = rw (c .enum-told5 .given .1)
+
+pub size-spec : {M : Type 1} → statement M
+size-spec =
+    tie.close
+    (tie.spec
+    enum-told
+    enum-told-2
+    enum-told-3
+    enum-told-4
+    enum-told-5
+    returns
+    returns-2
+    returns-3
+    returns-4
+    returns-5)

@@ -1,0 +1,86 @@
+-- The bytes of an event, and what `size` and `write` promise.
+-- Assumes nothing.
+use Prim.Native.Nat.{ℕ, _+_, _^_, _<_}
+use mathlib.Core.Bool.{Bool, true, cond, _&&_}
+use mathlib.Core.List.{List, [], _++_}
+use lib.Dec.{leb}
+use lib.ListN.{length, take, drop}
+use Rattle.rules.specs.Limits.{largestTunnel}
+use Rattle.rules.specs.Change.{Change, admit, wake, block, remove, tick}
+use Rattle.rules.specs.Turn.{Call}
+use Rattle.turns.specs.Calls.{described}
+use Rattle.records.specs.declared.answers.Event.{Event}
+use Rattle.records.specs.declared.answers.Event.the-variants.{Admit, Wake, Block, Remove, Tick}
+use Rattle.records.specs.Bytes.{bytesOf}
+use Rattle.records.specs.Record.{payload}
+
+-- the paper's values for each case of an event
+abbrev pub callOf : Event → Call
+callOf (Admit m d) = record { now = m .0; asked = admit (described d) }
+callOf (Wake m t) = record { now = m .0; asked = wake (t .0) }
+callOf (Block m t) = record { now = m .0; asked = block (t .0) }
+callOf (Remove m t) = record { now = m .0; asked = remove (t .0) }
+callOf (Tick m) = record { now = m .0; asked = tick }
+
+-- "1 admit, 2 wake, 3 block, 4 remove, 5 tick"
+abbrev pub tagOf : Change → ℕ
+tagOf (admit d) = 1
+tagOf (wake t) = 2
+tagOf (block t) = 3
+tagOf (remove t) = 4
+tagOf tick = 5
+
+-- the payload behind its time: "identifier 3, period 4, capacity 4, priority 1"
+abbrev pub fieldsOf : Change → List ℕ
+fieldsOf (admit d) = bytesOf 3 (d .tunnel) ++ (bytesOf 4 (d .period) ++ (bytesOf 4 (d .capacity) ++ bytesOf 1 (d .priority)))
+fieldsOf (wake t) = bytesOf 3 t
+fieldsOf (block t) = bytesOf 3 t
+fieldsOf (remove t) = bytesOf 3 t
+fieldsOf tick = []
+
+-- tag 1, length 2, time 8
+unfoldable pub head : ℕ → ℕ → ℕ → List ℕ
+head tag size time = bytesOf 1 tag ++ (bytesOf 2 size ++ bytesOf 8 time)
+
+-- the whole record of a call
+unfoldable pub recordOf : Call → List ℕ
+recordOf c = head (tagOf (c .asked)) (payload (tagOf (c .asked))) (c .now) ++ fieldsOf (c .asked)
+
+-- the bytes of an event's whole record
+unfoldable pub sizeOf : Event → ℕ
+sizeOf e = 3 + payload (tagOf (callOf e .asked))
+
+-- what a record can hold: time 8 bytes, identifier 3, period 4, capacity 4, priority 1
+abbrev pub Held : Change → Type 0
+Held (admit d) = (d .tunnel < 256 ^ 3) × (d .period < 256 ^ 4) × (d .capacity < 256 ^ 4) × (d .priority < 256 ^ 1)
+Held (wake t) = t < 256 ^ 3
+Held (block t) = t < 256 ^ 3
+Held (remove t) = t < 256 ^ 3
+Held tick = Unit {0}
+
+abbrev pub InRange : Call → Type 0
+InRange c = (c .now < 256 ^ 8) × Held (c .asked)
+
+-- the identifier has 24 bits; the other fields cannot hold more than their bytes
+abbrev pub narrow : Change → Bool
+narrow (admit d) = leb (d .tunnel) largestTunnel
+narrow (wake t) = leb t largestTunnel
+narrow (block t) = leb t largestTunnel
+narrow (remove t) = leb t largestTunnel
+narrow tick = true
+
+-- the record would read back, and there is room for it
+unfoldable pub goes : Event → List ℕ → Bool
+goes e out = narrow (callOf e .asked) && leb (sizeOf e) (length out)
+
+-- how many bytes are written: the whole record or nothing
+unfoldable pub writtenSize : Event → List ℕ → ℕ
+writtenSize e out = cond (goes e out) (sizeOf e) 0
+
+-- what `out` holds then: the record at its front, and the rest as it was
+unfoldable pub written : Event → List ℕ → List ℕ
+written e out = cond (goes e out) (recordOf (callOf e) ++ drop (sizeOf e) out) out
+
+-- `s` with `xs` laid over it from `at` on
+unfoldable pub laid : List ℕ → ℕ → List ℕ → List ℕ
+laid s at xs = take at s ++ (xs ++ drop (at + length xs) s)

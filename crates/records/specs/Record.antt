@@ -1,0 +1,78 @@
+-- Document 01, "Event records and lines": what a record says, in plain numbers, and the checks in their order.
+-- Assumes nothing.
+use Prim.Native.Nat.{ℕ, _+_}
+use mathlib.Core.Bool.{Bool, cond, not, _&&_, _||_}
+use mathlib.Core.List.{List}
+use lib.Dec.{leb, ltb, eqb}
+use lib.ListN.{length, getD}
+use Rattle.rules.specs.Vcpu.{Description}
+use Rattle.rules.specs.Change.{Change, admit, wake, block, remove, tick}
+use Rattle.rules.specs.Refuse.{Refusal}
+use Rattle.rules.specs.Turn.{Call}
+use Rattle.records.specs.Bytes.{number}
+
+-- "Reading a record either gives an event, or a refusal"
+pub data Reading : Type 0 where
+  event : Call → Reading
+  refused : Refusal → Reading
+
+-- 1 admit, 2 wake, 3 block, 4 remove, 5 tick; 6 and 7 are unknown
+unfoldable pub known : ℕ → Bool
+known tag = leb 1 tag && leb tag 5
+
+-- the bytes of a known tag's payload
+unfoldable pub payload : ℕ → ℕ
+payload tag = cond (eqb tag 1) 20 (cond (eqb tag 5) 8 11)
+
+-- "A record is a tag byte, a two-byte length and the payload"
+abbrev pub tag : List ℕ → ℕ
+tag s = getD s 0 0
+
+abbrev pub lengthSaid : List ℕ → ℕ
+lengthSaid s = number s 1 2
+
+-- "time 8, identifier 3, period 4, capacity 4, priority 1"
+abbrev pub time : List ℕ → ℕ
+time s = number s 3 8
+
+abbrev pub identifier : List ℕ → ℕ
+identifier s = number s 11 3
+
+abbrev pub description : List ℕ → Description
+description s =
+    record { tunnel = identifier s; period = number s 14 4; capacity = number s 18 4; priority = getD s 22 0 }
+
+abbrev pub asked : ℕ → List ℕ → Change
+asked tag s =
+    cond (eqb tag 1) (admit (description s))
+    (cond (eqb tag 2) (wake (identifier s))
+    (cond (eqb tag 3) (block (identifier s))
+    (cond (eqb tag 4) (remove (identifier s))
+    tick)))
+
+-- the call that a whole record asks for
+unfoldable pub call : List ℕ → Call
+call s = record { now = time s; asked = asked (tag s) s }
+
+-- a refusal with that number; its detail is 0
+abbrev pub no : ℕ → Reading
+no number = refused (record { number = number; detail = 0 })
+
+-- a check: where its test applies, its number; else the checks after it
+abbrev pub row : Bool → ℕ → Reading → Reading
+row applies number after = cond applies (no number) after
+
+-- "header short 20 (no bytes at all too), tag 21, length 22, payload short 20"
+unfoldable pub reading : List ℕ → Reading
+reading s =
+    row (ltb (length s) 3) 20
+    (row (not (known (tag s))) 21
+    (row (not (eqb (lengthSaid s) (payload (tag s)))) 22
+    (row (ltb (length s) (3 + payload (tag s))) 20
+    (event (call s)))))
+
+-- more bytes can change the answer: there are fewer than three, or a known tag with its length has a short payload
+unfoldable pub waits : List ℕ → Bool
+waits s =
+    ltb (length s) 3
+    || (known (tag s) && (eqb (lengthSaid s) (payload (tag s)) && ltb (length s) (3 + payload (tag s))))
