@@ -86,6 +86,7 @@ pub fn run(mut input: impl Read, mut output: impl Write) -> io::Result<()> {
 #[cfg(test)]
 mod tests {
     use super::*;
+    use crate::turns::{Call, Change, Description};
     use crate::words;
 
     const WHOLE_CASE: [(&str, &str); 10] = [
@@ -143,5 +144,33 @@ mod tests {
             assert_eq!(card.take(&[5, 0, 8, 0, 0, 0, 0, 0, 0, 0, 0]), "");
             assert_eq!(card.end(), "");
         }
+    }
+
+    /// The calls of the proved program `wide`: row 4, which a record's three bytes cannot
+    /// reach, and the rows before and behind it.
+    #[test]
+    fn row_4_on_the_library() {
+        const LARGEST: u32 = 16_777_215;
+        let admit = |identifier, capacity| {
+            Change::Admit(Description { identifier, period: 10, capacity, priority: 1 })
+        };
+        let calls = [
+            (0, admit(LARGEST, 3)),
+            (0, Change::Wake(LARGEST)),
+            (0, admit(LARGEST + 1, 3)),
+            (0, Change::Wake(33_554_431)),
+            (0, Change::Block(33_554_431)),
+            (0, Change::Remove(u32::MAX)),
+            (0, Change::Tick),
+            (1_000_000_000_001, Change::Wake(LARGEST + 1)),
+            (4, Change::Wake(LARGEST + 1)),
+            (0, admit(LARGEST + 1, 0)),
+            (2, Change::Tick),
+            (1, Change::Remove(LARGEST + 1)),
+            (3, Change::Tick),
+        ];
+        let mut core = Core::new();
+        let lines: String = calls.map(|(time, change)| line(&core.call(&Call { time, change }))).concat();
+        assert_eq!(lines, include_str!("../../crates/wide/stdout"));
     }
 }

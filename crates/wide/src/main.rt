@@ -1,0 +1,90 @@
+// Row 4 on the library: a record's three bytes cannot carry an identifier above 24 bits, so the calls that meet it are made here.
+// It writes the line of each reply; `stdout` has the lines that document 01 gives.
+use libc::STDOUT_FILENO;
+use lines::LONGEST_LINE;
+use turns::Change;
+use turns::Core;
+use turns::Description;
+use turns::Reply;
+use units::Amount;
+use units::Moment;
+use units::Tunnel;
+ghost use Rattle.turns.specs.State.{ValidCore};
+
+// The largest identifier, and three above 24 bits: the next one, one with the same low 24 bits, and the largest 32-bit number.
+const LARGEST: u32 = 16777215;
+
+const NEXT: u32 = 16777216;
+
+const ALIKE: u32 = 33554431;
+
+const ALL_BITS: u32 = 4294967295;
+
+fn say(reply: Reply) {
+    let mut out = [0u8; LONGEST_LINE];
+    let written = lines::write_line(reply, &mut out);
+    io::write_all(STDOUT_FILENO, &out[..written]);
+}
+
+fn called(core: Core, now: u64, change: Change) -> Core
+    requires { ⌜ ValidCore core ⌝ }
+    ensures { λ r. ⌜ ValidCore r ⌝ }
+{
+    let answer = core.turn(Moment::new(now), change);
+    let reply = answer.reply;
+    say(reply);
+    answer.core
+}
+
+fn admit(id: u32, capacity: u32) -> Change {
+    Change::Admit(Description {
+        tunnel: Tunnel::new(id),
+        period: Amount::new(10),
+        capacity: Amount::new(capacity),
+        priority: 1,
+    })
+}
+
+fn wake(id: u32) -> Change {
+    Change::Wake(Tunnel::new(id))
+}
+
+fn block(id: u32) -> Change {
+    Change::Block(Tunnel::new(id))
+}
+
+fn remove(id: u32) -> Change {
+    Change::Remove(Tunnel::new(id))
+}
+
+// Each call refused by row 4, with the core as it stood.
+fn refused(core: Core) -> Core
+    requires { ⌜ ValidCore core ⌝ }
+    ensures { λ r. ⌜ ValidCore r ⌝ }
+{
+    let core = called(core, 0, admit(NEXT, 3));
+    let core = called(core, 0, wake(ALIKE));
+    let core = called(core, 0, block(ALIKE));
+    let core = called(core, 0, remove(ALL_BITS));
+    called(core, 0, Change::Tick)
+}
+
+// Rows 1, 2 and 3 come before row 4, and row 5 behind it.
+fn ordered(core: Core) -> Core
+    requires { ⌜ ValidCore core ⌝ }
+    ensures { λ r. ⌜ ValidCore r ⌝ }
+{
+    let core = called(core, 1000000000001, wake(NEXT));
+    let core = called(core, 4, wake(NEXT));
+    let core = called(core, 0, admit(NEXT, 0));
+    let core = called(core, 2, Change::Tick);
+    let core = called(core, 1, remove(NEXT));
+    called(core, 3, Change::Tick)
+}
+
+fn main() {
+    let core = called(Core::empty(), 0, admit(LARGEST, 3));
+    let core = called(core, 0, wake(LARGEST));
+    let core = refused(core);
+    ordered(core);
+}
