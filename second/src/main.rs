@@ -13,6 +13,7 @@ mod inplace_program;
 mod lines;
 mod options;
 mod outside;
+mod picture;
 mod pipe;
 mod plain_work;
 mod queries;
@@ -43,6 +44,8 @@ with the program to try:
   compare-card PROGRAM [--seed S] [--records N] [--list 1]
   outside PROGRAM [--seed S] [--runs N]
   bench-sizing PROGRAM [--seed S] [--families N] [--changes N] [--rounds N] [--full 1]
+a picture of records in words, from standard input to standard output:
+  picture PROGRAM
 one run of a comparison, as records:
   run [--seed S] [--records N] [--run K]
   outside-run [--seed S] [--run K]";
@@ -65,6 +68,7 @@ fn run(command: &str, options: &Options) -> Result<(), String> {
             println!("{}", try_program(command, options)?);
             Ok(())
         }
+        "picture" => write_picture(options),
         "run" | "outside-run" => write_run(command, options),
         _ => filter(command).map_err(|error| error.to_string())?,
     }
@@ -117,6 +121,12 @@ fn try_program(command: &str, options: &Options) -> Result<String, String> {
             full: options.number("full", 0) != 0,
         }),
     }
+}
+
+fn write_picture(options: &Options) -> Result<(), String> {
+    let text = io::read_to_string(io::stdin()).map_err(|error| error.to_string())?;
+    print!("{}", picture::run(&options.program()?, &text)?);
+    Ok(())
 }
 
 fn write_run(command: &str, options: &Options) -> Result<(), String> {

@@ -29,7 +29,7 @@ impl Slice {
 }
 
 #[derive(Default)]
-struct Counts {
+pub struct Counts {
     stays: u64,
     ticks: u64,
     windows: u64,
@@ -38,16 +38,16 @@ struct Counts {
     cuts: u64,
 }
 
-struct Stay {
-    identifier: u32,
-    period: u64,
-    capacity: u64,
+pub struct Stay {
+    pub identifier: u32,
+    pub period: u64,
+    pub capacity: u64,
     slices: Vec<Slice>,
     folded: bool,
 }
 
 impl Stay {
-    fn new(description: &Description) -> Stay {
+    pub fn new(description: &Description) -> Stay {
         Stay {
             identifier: description.identifier,
             period: u64::from(description.period),
@@ -62,7 +62,7 @@ impl Stay {
     }
 
     /// The stay holds the core from `start` to `end`.
-    fn hold(&mut self, start: u64, end: u64, counts: &mut Counts) {
+    pub fn hold(&mut self, start: u64, end: u64, counts: &mut Counts) {
         counts.ticks += end - start;
         let mut from = start;
         while from < end {
@@ -90,7 +90,7 @@ impl Stay {
         }
     }
 
-    fn usable(&self, moment: u64) -> u64 {
+    pub fn usable(&self, moment: u64) -> u64 {
         let pending: u64 = self.pending(moment).map(|slice| slice.end - slice.start).sum();
         self.capacity.saturating_sub(pending)
     }
@@ -119,14 +119,14 @@ impl Stay {
 }
 
 /// An `ok` line.
-struct Told {
-    time: u64,
-    run: Option<u32>,
-    usable: u64,
+pub struct Told {
+    pub time: u64,
+    pub run: Option<u32>,
+    pub usable: u64,
 }
 
 /// None for a refusal.
-fn read_line(line: &str) -> Result<Option<Told>, String> {
+pub fn read_line(line: &str) -> Result<Option<Told>, String> {
     let words: Vec<&str> = line.split(' ').collect();
     let wrong = || format!("no line of the card: {line}");
     match words[..] {
