@@ -1,5 +1,5 @@
 -- The laws of `lines`: the digits of a number (Figures, Longest), what is written one after the other (Writing), what
--- reading promises (Reading), serving (Served), serving in parts (Parts), and that the promises allow one reply (Once).
+-- reading promises (Reading), serving (Served), serving in parts (Parts), and that the promises allow one reply (OneReply).
 -- Assumes nothing.
 pub mod Figures
 pub mod Longest
@@ -7,4 +7,4 @@ pub mod Writing
 pub mod Reading
 pub mod Served
 pub mod Parts
-pub mod Once
+pub mod OneReply

@@ -6,6 +6,6 @@ pub mod Written
 pub mod Digits
 pub mod Back
 pub mod Behind
-pub mod Once
+pub mod OneReply
 pub mod Exactly
 pub mod Again

@@ -14,4 +14,4 @@ pub mod Shape
 pub mod Settle
 pub mod Questions
 pub mod Made
-pub mod Once
+pub mod OneReply

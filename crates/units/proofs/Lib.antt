@@ -1,2 +1,2 @@
 -- That each promise allows one reply. Assumes nothing.
-pub mod Once
+pub mod OneReply
