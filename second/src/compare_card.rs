@@ -2,7 +2,9 @@
 
 use crate::card_cases;
 use crate::generate::{self, Run};
+use crate::lines::Card;
 use crate::pipe;
+use crate::random::Random;
 use crate::reached::Reached;
 use crate::words;
 
@@ -91,6 +93,36 @@ fn compare_talk(program: &str, seed: u64) -> Result<(), String> {
     Ok(())
 }
 
+/// The input in parts that take no heed of where records end, each with the lines that it
+/// makes answerable.
+fn random_parts(run: &Run, random: &mut Random) -> Vec<(Vec<u8>, usize)> {
+    let (input, mut card) = (run.input(), Card::new());
+    let (mut parts, mut from) = (Vec::new(), 0);
+    while from < input.len() {
+        let to = input.len().min(from + random.between(1, 60) as usize);
+        let part = input[from..to].to_vec();
+        let awaited = card.take(&part).lines().count();
+        parts.push((part, awaited));
+        from = to;
+    }
+    parts
+}
+
+/// A part may hold no record, or the end of one and some more: what is left of one part
+/// goes on with the next.
+fn compare_cuts(program: &str, seed: u64) -> Result<(), String> {
+    let mut random = Random::new(seed);
+    for place in 0..40 {
+        let run = generate::run(seed, place, 200, &mut Reached::default());
+        let parts = random_parts(&run, &mut random);
+        let theirs: String = pipe::talk(program, &parts)?.iter().map(|line| format!("{line}\n")).collect();
+        if let Some(difference) = first_difference(&run, theirs.as_bytes()) {
+            return Err(format!("in parts, seed {seed}, run {place}: {difference}"));
+        }
+    }
+    Ok(())
+}
+
 fn compare_empty(program: &str) -> Result<(), String> {
     let output = pipe::feed(program, b"")?;
     if output.is_empty() {
@@ -102,6 +134,7 @@ fn compare_empty(program: &str) -> Result<(), String> {
 pub fn run(plan: &Plan) -> Result<String, String> {
     compare_empty(&plan.program)?;
     compare_talk(&plan.program, plan.seed)?;
+    compare_cuts(&plan.program, plan.seed)?;
     let mut reached = Reached::default();
     let (mut records, mut accepted) = (0, 0);
     let runs = lengths(plan.records).runs;
@@ -142,6 +175,19 @@ mod tests {
         assert!(first_difference(&run, right.replacen('1', "2", 1).as_bytes()).is_some());
         let (_, without_first) = right.split_once('\n').unwrap();
         assert!(first_difference(&run, without_first.as_bytes()).is_some());
+    }
+
+    #[test]
+    fn parts_are_the_input_and_await_its_lines() {
+        let run = generate::run(1, 3, 100, &mut Reached::default());
+        let parts = random_parts(&run, &mut Random::new(1));
+        let bytes: Vec<u8> = parts.iter().flat_map(|(part, _)| part.clone()).collect();
+        assert_eq!(bytes, run.input());
+        let awaited: usize = parts.iter().map(|(_, awaited)| awaited).sum();
+        assert!(awaited == run.lines.len() || awaited + 1 == run.lines.len());
+        assert!(
+            parts.iter().any(|&(_, awaited)| awaited > 1) && parts.iter().any(|&(_, awaited)| awaited == 0)
+        );
     }
 
     #[test]

@@ -94,20 +94,31 @@ fn first_difference(asked: &[Asked], output: &[u8]) -> Option<String> {
     (!rest.is_empty()).then(|| format!("more than {number} answers: {}", shown(rest)))
 }
 
-fn compare_ends(program: &str) -> Result<(), String> {
-    for input in ENDS {
-        let theirs = pipe::feed(program, input)?;
-        let mine: String = sizing::answers(input).iter().map(|a| a.line() + "\n").collect();
-        if theirs != mine.as_bytes() {
-            return Err(format!(
-                "whole input \"{}\" differs\n  program: {}\n  second:  {}",
-                shown(input),
-                shown(&theirs),
-                shown(mine.as_bytes())
-            ));
-        }
+/// Lines far longer than any buffer: leading zeros, and far too many fields.
+fn long_inputs() -> [Vec<u8>; 3] {
+    let zeros = format!("supply 4 {}3 7\nsupply 4 3 2\n", "0".repeat(200_000));
+    let fields = format!("least 5{}\nsupply 4 3 5\n", " 5 1".repeat(50_000));
+    let digits = format!("supply 4 3 {}", "7".repeat(200_000));
+    [zeros, fields, digits].map(String::into_bytes)
+}
+
+fn compare_whole(program: &str, input: &[u8]) -> Result<(), String> {
+    let theirs = pipe::feed(program, input)?;
+    let mine: String = sizing::answers(input).iter().map(|a| a.line() + "\n").collect();
+    if theirs == mine.as_bytes() {
+        return Ok(());
     }
-    Ok(())
+    Err(format!(
+        "whole input \"{}\" differs\n  program: {}\n  second:  {}",
+        shown(input),
+        shown(&theirs),
+        shown(mine.as_bytes())
+    ))
+}
+
+fn compare_ends(program: &str) -> Result<(), String> {
+    ENDS.iter().try_for_each(|input| compare_whole(program, input))?;
+    long_inputs().iter().try_for_each(|input| compare_whole(program, input))
 }
 
 /// Each line is answered before the next one is sent.

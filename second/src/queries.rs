@@ -196,7 +196,7 @@ impl Queries {
     fn spoil_lead(&mut self, draft: &mut Draft) {
         let above = match draft.word {
             "demand" => draft.tasks.len() as u64 + 1,
-            _ => draft.lead[0] + 1,
+            _ => draft.lead[0].wrapping_add(1),
         };
         let place = self.random.index(draft.lead.len());
         draft.lead[place] = *self.random.pick(&[0, above, 2001, 2000, 65537, 1 << 32, u64::MAX]);

@@ -173,7 +173,7 @@ fn note_31(list: &[u128], reached: &mut Reached) {
         reached.add_if(period == 0, "31: period 0");
         reached.add_if(period == 2001 && cost >= 1, "31: period 2001");
         reached.add_if(period > 0 && cost == 0, "31: cost 0");
-        reached.add_if(period > 0 && cost == period + 1, "31: cost above the period");
+        reached.add_if(period > 0 && cost.checked_sub(period) == Some(1), "31: cost above the period");
     }
     let before_falls = list.chunks(2).zip(list.chunks(2).skip(1)).position(|(a, b)| b[0] < a[0]);
     let behind = before_falls.is_some_and(|k| bad[0] > k + 1);
