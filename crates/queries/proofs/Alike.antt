@@ -8,8 +8,8 @@ use mathlib.Core.Logic.{_⊎_, inl, inr}
 use native.Mathlib.Omega.{arith}
 use lib.Dec.{leb, ltb}
 use borrow.Author.Tests.{lt-ltb, lt-leb, ltb-false, leb-true}
-use Rattle.shares.specs.Reply.{Reply}
-use Rattle.shares.specs.Rows.{within, inRange, row, supplyReply}
+use Rattle.model.specs.Reply.{Reply}
+use Rattle.model.specs.Rows.{within, inRange, row, supplyReply}
 use Rattle.queries.specs.Reading.{figured}
 use Rattle.queries.specs.Meaning.{isDigit, allDigits, numberFrom}
 use Rattle.queries.proofs.Readings.{capped, digitStep}

@@ -10,9 +10,9 @@ use lib.Dec.{ltb, eqb}
 use lib.ListN.{length, getD}
 use lib.Seq.{ext-getD}
 use borrow.Author.Tests.{ltb-false, eqb-true, eqb-false}
-use Rattle.shares.specs.Search.{first, orElse}
-use Rattle.shares.specs.Reply.{Reply, refuses}
-use Rattle.shares.specs.Rows.{within, row, miscounted, outOfRange, falls, tasksRow, tasksRows, demandReply, checkReply, leastReply, bestReply}
+use Rattle.model.specs.Search.{first, orElse}
+use Rattle.model.specs.Reply.{Reply, refuses}
+use Rattle.model.specs.Rows.{within, row, miscounted, outOfRange, falls, tasksRow, tasksRows, demandReply, checkReply, leastReply, bestReply}
 use Rattle.queries.proofs.Alike.{Alike, bad-share, share-large, budget-large, within-limit, share-alike, period-alike, length-alike}
 
 first-same : (f g : ℕ → Bool) → ((k : ℕ) → f k ≡ g k) → (n : ℕ) → first f n ≡ first g n

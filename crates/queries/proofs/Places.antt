@@ -1,7 +1,7 @@
 -- Places counted from 1, 0 standing for none. Assumes nothing.
 use Prim.Native.Nat.{ℕ, zero, suc}
 use mathlib.Core.Path.{_≡_, refl}
-use Rattle.shares.specs.Search.{orElse}
+use Rattle.model.specs.Search.{orElse}
 
 pub or-else-some : (a b : ℕ) → (a ≡ 0 → ⊥) → a ≡ orElse a b
 or-else-some zero b h = absurd (h refl)

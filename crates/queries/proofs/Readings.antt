@@ -9,7 +9,7 @@ use native.Mathlib.Numerals.{add-one}
 use lib.Dec.{eqb}
 use lib.ListN.{length, length-append}
 use borrow.Author.Tests.{eqb-true, eqb-false, lt-ltb}
-use Rattle.shares.specs.Search.{orElse}
+use Rattle.model.specs.Search.{orElse}
 use Rattle.queries.specs.declared.reading.Reading.{Reading}
 use Rattle.queries.specs.Reading.{lettered, figured, oneMore, noDigits, plainRead}
 use Rattle.queries.specs.Meaning.{isDigit, isEmpty, untilSpace, fieldsOf, allDigits, isNumber}

@@ -10,7 +10,7 @@ use lib.Dec.{leb}
 use lib.ListN.{length, take, getD}
 use lib.Seq.{take-suc}
 use borrow.Author.Tests.{leb-true, eq-eqb, ne-eqb}
-use Rattle.shares.specs.Search.{orElse}
+use Rattle.model.specs.Search.{orElse}
 use Rattle.queries.specs.declared.reading.Reading.{Reading}
 use Rattle.queries.specs.declared.line.Line.{Line}
 use Rattle.queries.specs.Reading.{lettered, figured, oneMore, noDigits, returnRead, plainRead, released, byteRead, oddKept, evenKept, fedByte, fedBytes}

@@ -10,8 +10,8 @@ use lib.Dec.{leb, ltb}
 use lib.ListN.{length, getD, take, drop, length-drop, length-map, List·getD-map}
 use lib.Seq.{ext-getD, getD-take, getD-drop, length-take-le}
 use borrow.Author.Tests.{lt-leb, ltb-true, ltb-false}
-use Rattle.shares.specs.Reply.{Reply}
-use Rattle.shares.specs.Rows.{miscounted, tasksRows, demandReply, checkReply, leastReply, bestReply}
+use Rattle.model.specs.Reply.{Reply}
+use Rattle.model.specs.Rows.{miscounted, tasksRows, demandReply, checkReply, leastReply, bestReply}
 use Rattle.queries.specs.declared.ask.Word.{Word}
 use Rattle.queries.specs.declared.ask.Word.the-variants.{Supply, Demand, Check, Least, Best}
 use Rattle.queries.specs.Answer.{periodsOf, costsOf, periods, costs, replyOf}

@@ -4,7 +4,7 @@ use mathlib.Core.Bool.{Bool, cond, _&&_}
 use mathlib.Core.List.{List, []}
 use lib.Dec.{ltb, eqb}
 use lib.ListN.{getD, take, drop}
-use Rattle.shares.specs.Reply.{Reply}
+use Rattle.model.specs.Reply.{Reply}
 use Rattle.queries.specs.declared.ask.Word.{Word}
 use Rattle.queries.specs.declared.ask.Word.the-variants.{Supply, Demand, Check, Least, Best}
 use Rattle.queries.specs.declared.ask.Spoken.{Spoken}

@@ -5,9 +5,9 @@ use mathlib.Core.Bool.{Bool, true, false, cond, not, _&&_, _||_}
 use mathlib.Core.List.{List, [], _∷_, map}
 use lib.Dec.{leb, ltb, eqb}
 use lib.ListN.{length, getD, drop}
-use Rattle.shares.specs.Search.{first}
-use Rattle.shares.specs.Reply.{Reply}
-use Rattle.shares.specs.Rows.{supplyReply, demandReply, checkReply, leastReply, bestReply}
+use Rattle.model.specs.Search.{first}
+use Rattle.model.specs.Reply.{Reply}
+use Rattle.model.specs.Rows.{supplyReply, demandReply, checkReply, leastReply, bestReply}
 use Rattle.queries.specs.declared.ask.Word.{Word}
 use Rattle.queries.specs.declared.ask.Word.the-variants.{Supply, Demand, Check, Least, Best}
 use Rattle.queries.specs.declared.ask.Spoken.{Spoken}

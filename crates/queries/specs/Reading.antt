@@ -5,7 +5,7 @@ use mathlib.Core.Bool.{true, false, cond, not, _&&_}
 use mathlib.Core.List.{List, [], _∷_}
 use lib.Dec.{leb, ltb, eqb}
 use lib.ListN.{set, replicate}
-use Rattle.shares.specs.Search.{orElse}
+use Rattle.model.specs.Search.{orElse}
 use Rattle.queries.specs.declared.reading.Reading.{Reading}
 use Rattle.queries.specs.declared.line.Line.{Line}
 use Rattle.queries.specs.Meaning.{isDigit}

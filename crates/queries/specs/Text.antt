@@ -6,7 +6,7 @@ use mathlib.Core.Path.{_≡_}
 use lib.Dec.{ltb}
 use lib.ListN.{length, drop}
 use lib.Seq.{sets}
-use Rattle.shares.specs.Reply.{Reply, gives, refuses}
+use Rattle.model.specs.Reply.{Reply, gives, refuses}
 use Rattle.queries.specs.declared.answer.Answer.{Answer}
 use Rattle.queries.specs.declared.answer.Answer.the-variants.{Nothing, BadWord, BadField, One, Two, No}
 

@@ -5,7 +5,7 @@ use shares::Refusal;
 use shares::Ticks;
 use shares::Verdict;
 ghost use mathlib.Core.Path.{_≡_};
-ghost use Rattle.shares.specs.Reply.{paperRefusal, paperTicks, paperVerdict, paperBudget, paperInterface};
+ghost use Rattle.shares.specs.Paper.{paperRefusal, paperTicks, paperVerdict, paperBudget, paperInterface};
 ghost use Rattle.queries.specs.Text.{textOf, lineOf};
 
 pub(crate) enum Answer {

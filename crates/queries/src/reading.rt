@@ -1,7 +1,7 @@
 // What the bytes of a line have said so far, but for the numbers of the fields that have ended.
 ghost use mathlib.Core.Path.{_≡_};
 ghost use mathlib.Core.Bool.{true};
-ghost use Rattle.shares.specs.Search.{orElse};
+ghost use Rattle.model.specs.Search.{orElse};
 ghost use Rattle.queries.specs.Reading.{lettered, figured, oneMore, startReading, noDigits, plainRead, byteRead};
 ghost use Rattle.queries.specs.Reading.{released as releasedRead};
 ghost use Rattle.queries.specs.Meaning.{isDigit};

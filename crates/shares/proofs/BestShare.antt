@@ -1,20 +1,19 @@
 -- The best share from period to period: searching the next period up to its cap, and replacing where that finds a budget, is the better of two.
 -- Assumes nothing.
 use Prim.Native.Nat.{ℕ, zero, suc, _+_, _*_, _-_, _/_, _≤_, _<_}
-use mathlib.Core.Path.{_≡_, refl, ap, sym, _∙_, subst}
+use mathlib.Core.Path.{_≡_, refl, ap, sym, _∙_}
 use mathlib.Core.Bool.{Bool, true, false, cond}
 use mathlib.Core.List.{List}
 use mathlib.Core.Logic.{_⊎_, inl, inr}
 use native.Mathlib.Omega.{arith}
-use native.Mathlib.Nat.{le-trans, le-div-iff-mul-le, mul-le-mul-right, div-le-of-le-mul, mul-comm}
+use native.Mathlib.Nat.{le-div-iff-mul-le, mul-le-mul-right, div-le-of-le-mul}
 use lib.Dec.{leb, eqb}
 use borrow.Author.Tests.{le-leb, lt-leb, eq-eqb, ne-eqb, eqb-true, eqb-false}
-use Rattle.shares.specs.declared.answers.Share.{Share}
-use Rattle.shares.specs.Search.{first}
-use Rattle.shares.specs.Share.{passes, leastOf, better, bestOf}
+use Rattle.model.specs.Search.{first}
+use Rattle.model.specs.Share.{Share, passes, leastOf, better, bestOf}
+use Rattle.model.proofs.Tests.{below-or-from}
+use Rattle.model.proofs.Places.{Smallest, first-smallest, first-at, first-none}
 use Rattle.shares.specs.Table.{Offered, capOf, replacedBy}
-use Rattle.shares.proofs.Numbers.{below-or-from}
-use Rattle.shares.proofs.Places.{tested, Smallest, first-smallest, first-at, first-none}
 
 pub cap-none : (s : Share) (P : ℕ) → s .budget ≡ 0 → capOf s P ≡ P
 unfolding capOf

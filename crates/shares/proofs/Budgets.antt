@@ -1,19 +1,19 @@
 -- The least budget: passing grows with the budget, so that one failing budget settles all below it, and the search may begin above it.
 -- Assumes nothing.
-use Prim.Native.Nat.{ℕ, zero, suc, _+_, _*_, _-_, _/_, _≤_, _<_}
-use mathlib.Core.Path.{_≡_, refl, ap, sym, _∙_, subst}
-use mathlib.Core.Bool.{Bool, true, false, cond, _&&_}
+use Prim.Native.Nat.{ℕ, zero, suc, _+_, _-_, _≤_, _<_}
+use mathlib.Core.Path.{_≡_, refl, sym}
+use mathlib.Core.Bool.{Bool, true, false, _&&_}
 use mathlib.Core.List.{List}
 use mathlib.Core.Logic.{_⊎_, inl, inr}
 use native.Mathlib.Omega.{arith}
 use lib.Dec.{leb}
 use borrow.Author.Tests.{le-leb, lt-leb}
-use lib.ListN.{length, getD}
-use Rattle.shares.specs.Search.{first, everywhere}
-use Rattle.shares.specs.Share.{meets, passes}
+use lib.ListN.{length}
+use Rattle.model.specs.Search.{first}
+use Rattle.model.specs.Share.{meets, passes}
+use Rattle.model.proofs.Tests.{below-or-from, tested, clash}
+use Rattle.model.proofs.Places.{everywhere-has, everywhere-all, first-agrees, Smallest, first-smallest}
 use Rattle.shares.specs.Table.{Tasks, NoneUpTo}
-use Rattle.shares.proofs.Numbers.{below-or-from}
-use Rattle.shares.proofs.Places.{tested, clash, everywhere-has, everywhere-all, first-agrees, first-none, Smallest, first-smallest}
 use Rattle.shares.proofs.Walk.{meets-grows}
 
 module _ (P : ℕ) (ps es : List ℕ) (tasks : Tasks ps es) where

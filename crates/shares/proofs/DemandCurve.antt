@@ -1,12 +1,12 @@
 -- The laws of demand on which the search rests: a longer length and a task more demand no less, some ticks are demanded, and not too many.
 -- Assumes nothing.
-use Prim.Native.Nat.{ℕ, zero, suc, _+_, _*_, _-_, _/_, _%_, _≤_, _<_}
-use mathlib.Core.Path.{_≡_, refl, ap, sym, _∙_}
+use Prim.Native.Nat.{ℕ, zero, suc, _+_, _*_, _-_, _≤_, _<_}
+use mathlib.Core.Path.{_≡_}
 use mathlib.Core.List.{List}
 use native.Mathlib.Omega.{arith}
 use native.Mathlib.Nat.{le-trans, le-refl, mul-le-mul, mul-le-mul-left, mul-le-mul-right, div-mul-le-self, le-div-iff-mul-le}
 use lib.ListN.{length, getD}
-use Rattle.shares.specs.Demand.{ceil, demandOf}
+use Rattle.model.specs.Demand.{ceil, demandOf}
 use Rattle.shares.specs.Table.{Tasks, longest}
 use Rattle.shares.proofs.Numbers.{div-mono}
 

@@ -1,18 +1,16 @@
 -- The table of leaps: one more entry, the rest of a task's entries, and that what the search reads from it passes over no length that would do.
 -- Assumes nothing.
 use Prim.Native.Nat.{ℕ, zero, suc, _+_, _*_, _-_, _/_, _%_, _≤_, _<_, min, max}
-use mathlib.Core.Path.{_≡_, refl, ap, sym, _∙_, subst}
-use mathlib.Core.Bool.{Bool, true, false, cond}
+use mathlib.Core.Path.{_≡_, refl, _∙_}
 use mathlib.Core.List.{List}
 use mathlib.Core.Logic.{_⊎_, inl, inr}
 use native.Mathlib.Omega.{arith}
-use lib.Dec.{ltb}
 use borrow.Author.Tests.{lt-ltb, le-ltb}
 use lib.ListN.{length, getD, set, replicate, length-set}
 use lib.Seq.{getD-set-same, getD-set-other}
-use Rattle.shares.specs.Demand.{demandOf}
+use Rattle.model.specs.Demand.{demandOf}
+use Rattle.model.proofs.Tests.{below-or-from}
 use Rattle.shares.specs.Table.{Tasks, NoneSpares, Leaps, leapOf}
-use Rattle.shares.proofs.Numbers.{below-or-from}
 use Rattle.shares.proofs.DemandCurve.{demand-longer}
 
 pub leap-far : (leaps : List ℕ) (i d s : ℕ) → 2000 < s → leapOf leaps i d s ≡ 2001

@@ -1,7 +1,6 @@
--- The laws that the proofs of this crate cite, and the theorems on what its definitions mean. Assumes nothing.
+-- The laws that the proofs of this crate cite, and that each promise of a public function allows one reply (OneReply). Assumes nothing.
 pub mod Numbers
 pub mod Bounds
-pub mod Places
 pub mod SupplyCurve
 pub mod DemandCurve
 pub mod RowLaws
@@ -11,7 +10,4 @@ pub mod Walk
 pub mod Budgets
 pub mod BestShare
 pub mod ReplyLaws
-pub mod Meaning
-pub mod Replies
-pub mod Examples
 pub mod OneReply

@@ -1,10 +1,7 @@
--- Division of natural numbers: it is monotone above, antitone below, and what remains is less than the divisor.
+-- Division of natural numbers: it grows with what is divided and falls with the divisor.
 -- Assumes nothing.
-use Prim.Native.Nat.{ℕ, zero, suc, _+_, _*_, _-_, _/_, _%_, _≤_, _<_}
-use mathlib.Core.Path.{_≡_, refl}
-use mathlib.Core.Bool.{Bool, true, false}
-use lib.Dec.{ltb}
-use borrow.Author.Tests.{ltb-true, ltb-false}
+use Prim.Native.Nat.{ℕ, _-_, _/_, _≤_, _<_}
+use mathlib.Core.Path.{_≡_}
 use mathlib.Core.Logic.{_⊎_, inl, inr}
 use native.Mathlib.Omega.{arith}
 use native.Mathlib.Nat.{le-trans, le-div-iff-mul-le, div-mul-le-self, div-zero, eq-zero-or-pos, mul-le-mul-left}
@@ -19,10 +16,3 @@ div-mono a b k h = go (eq-zero-or-pos k)
 pub div-anti : (a k m : ℕ) → 0 < k → k ≤ m → a / m ≤ a / k
 div-anti a k m pos h =
     le-div-iff-mul-le pos .1 (le-trans (mul-le-mul-left (a / m) h) (div-mul-le-self a m))
-
-pub below-or-from : (m n : ℕ) → (m < n) ⊎ (n ≤ m)
-below-or-from m n = go (ltb m n) refl
-  where
-    go : (b : Bool) → ltb m n ≡ b → (m < n) ⊎ (n ≤ m)
-    go true e = inl (ltb-true m n e)
-    go false e = inr (ltb-false m n e)

@@ -7,6 +7,7 @@ use contract.Lifetimes.{Lfts}
 use denote.Triple.Clauses.{AtExit}
 use borrow.Fn.Kinds.{PK, RK, Dens, resT, endedOf, Out}
 use Rattle.shares.specs.declared.answers.Refusal.{Refusal}
+use Rattle.shares.specs.declared.answers.Share.{Share}
 use Rattle.shares.specs.declared.answers.Ticks.{Ticks}
 use Rattle.shares.specs.declared.answers.Ticks.the-variants.{Of, No as NoTicks}
 use Rattle.shares.specs.declared.answers.Verdict.{Verdict}
@@ -15,8 +16,7 @@ use Rattle.shares.specs.declared.answers.Budget.{Budget}
 use Rattle.shares.specs.declared.answers.Budget.the-variants.{Least, No as NoBudget}
 use Rattle.shares.specs.declared.answers.Interface.{Interface}
 use Rattle.shares.specs.declared.answers.Interface.the-variants.{Best, No as NoInterface}
-use Rattle.shares.specs.Reply.{paperRefusal, paperTicks, paperVerdict, paperBudget, paperInterface}
-use Rattle.shares.proofs.Meaning.{same-share}
+use Rattle.shares.specs.Paper.{paperRefusal, paperTicks, paperVerdict, paperBudget, paperInterface}
 use Rattle.shares.proofs.calls.supply.Kinds as supply
 use Rattle.shares.proofs.calls.supply.Reads as supply-promise
 use Rattle.shares.proofs.calls.demand.Kinds as demand
@@ -42,6 +42,12 @@ same-refusal r s e =
   where
     made : ℕ → ℕ → Refusal
     made n d = record { number = n; detail = d }
+
+same-share : (s t : Share) → s .period ≡ t .period → s .budget ≡ t .budget → s ≡ t
+same-share s t p b = ap (λ (P : ℕ). made P (s .budget)) p ∙ ap (made (t .period)) b
+  where
+    made : ℕ → ℕ → Share
+    made P B = record { period = P; budget = B }
 
 -- the paper's number and values tell the answers apart
 pub same-ticks : (a b : Ticks) → paperTicks a ≡ paperTicks b → a ≡ b

@@ -1,20 +1,19 @@
--- The complete replies of specs/Rows.antt, case by case: each row where it applies, and the result where none does.
+-- The complete replies of model's specs/Rows.antt, case by case: each row where it applies, and the result where none does.
 -- Assumes nothing.
-use Prim.Native.Nat.{ℕ, zero, suc, _≤_, _<_}
-use mathlib.Core.Path.{_≡_, refl, ap, sym, _∙_}
-use mathlib.Core.Bool.{Bool, true, false, cond, not, _&&_, _||_}
+use Prim.Native.Nat.{ℕ, _≤_, _<_}
+use mathlib.Core.Path.{_≡_, _∙_}
+use mathlib.Core.Bool.{Bool, true, false, cond}
 use mathlib.Core.List.{List, [], _∷_}
 use native.Mathlib.Omega.{arith}
-use lib.Dec.{leb, ltb, eqb}
-use borrow.Author.Tests.{lt-ltb, le-ltb, le-leb, lt-leb, eq-eqb, ne-eqb}
-use lib.ListN.{length, getD}
+use borrow.Author.Tests.{lt-ltb, le-ltb, le-leb, lt-leb, ne-eqb}
+use lib.ListN.{length}
+use Rattle.model.specs.Supply.{supplyOf}
+use Rattle.model.specs.Demand.{demandOf}
+use Rattle.model.specs.Share.{passes, leastOf, bestOf}
+use Rattle.model.specs.Reply.{Reply, gives, refuses}
+use Rattle.model.specs.Rows.{within, inRange, tasksRow, tasksRows, supplyReply, demandReply, checkReply, leastReply, bestReply}
 use Rattle.shares.specs.declared.answers.Refusal.{Refusal}
-use Rattle.shares.specs.declared.answers.Share.{Share}
-use Rattle.shares.specs.Supply.{supplyOf}
-use Rattle.shares.specs.Demand.{demandOf}
-use Rattle.shares.specs.Share.{passes, leastOf, bestOf}
-use Rattle.shares.specs.Reply.{Reply, gives, refuses, paperRefusal}
-use Rattle.shares.specs.Rows.{within, inRange, row, tasksRow, tasksRows, supplyReply, demandReply, checkReply, leastReply, bestReply}
+use Rattle.shares.specs.Paper.{paperRefusal}
 
 pub refused : (r : Refusal) (n : ℕ) → (r .number ≡ n) × (r .detail ≡ 0) → paperRefusal r ≡ refuses n 0
 refused r n e = rw (e .0, e .1)

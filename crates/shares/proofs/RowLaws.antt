@@ -1,17 +1,38 @@
--- The rows of specs/Rows.antt at the place that a loop looks at, and what lists are like that no row refuses.
+-- The rows of model's specs/Rows.antt at the place that a loop looks at, and what lists are like that no row refuses.
 -- Assumes nothing.
-use Prim.Native.Nat.{ℕ, zero, suc, _+_, _-_, _≤_, _<_}
-use mathlib.Core.Path.{_≡_, refl, ap, sym, _∙_}
-use mathlib.Core.Bool.{Bool, true, false, cond, not, _&&_, _||_}
+use Prim.Native.Nat.{ℕ, suc, _+_, _-_, _≤_, _<_}
+use mathlib.Core.Path.{_≡_, refl, sym, _∙_}
+use mathlib.Core.Bool.{Bool, true, false, cond, not}
 use mathlib.Core.List.{List}
+use mathlib.Core.Logic.{_⊎_, inl, inr}
 use native.Mathlib.Omega.{arith}
+use native.Mathlib.Nat.{le-suc-iff}
 use lib.Dec.{ltb, leb, eqb}
 use borrow.Author.Tests.{lt-ltb, le-ltb, le-leb, lt-leb, eq-eqb, ne-eqb, leb-true, ltb-false, eqb-true, not-false}
 use lib.ListN.{length, getD}
-use Rattle.shares.specs.Search.{first}
-use Rattle.shares.specs.Rows.{within, inRange, miscounted, outOfRange, falls, tasksRow}
+use Rattle.model.specs.Search.{first}
+use Rattle.model.specs.Rows.{within, inRange, miscounted, outOfRange, falls, tasksRow}
+use Rattle.model.proofs.Tests.{or-right, and-both, or-neither}
+use Rattle.model.proofs.Places.{NoneOf, first-at, first-none, first-smallest}
+use Rattle.model.proofs.Replies.{in-range}
 use Rattle.shares.specs.Table.{Tasks}
-use Rattle.shares.proofs.Places.{NoneOf, or-right, clash, first-smallest}
+
+-- a loop that looks at place 1, 2, .. and leaves at the first that has the test: what it knows after i places
+pub none-yet : (f : ℕ → Bool) → NoneOf f 0
+none-yet f s p l = absurd (omega arith)
+
+pub none-more : (f : ℕ → Bool) (i : ℕ) → NoneOf f i → f (i + 1) ≡ false → NoneOf f (i + 1)
+none-more f i none e s p l = go (le-suc-iff .0 (omega arith))
+  where
+    go : (s ≤ i) ⊎ (s ≡ suc i) → f s ≡ false
+    go (inl below) = none s p below
+    go (inr here) = let h : s ≡ i + 1 = omega arith in rw h e
+
+pub none-found : (f : ℕ → Bool) (n i : ℕ) → NoneOf f i → i < n → f (i + 1) ≡ true → i + 1 ≡ first f n
+none-found f n i none l e = sym (first-at f n (i + 1) (omega arith) (omega arith) e (λ s p h. none s p (omega arith)))
+
+pub none-at-all : (f : ℕ → Bool) (n i : ℕ) → NoneOf f i → n ≤ i → 0 ≡ first f n
+none-at-all f n i none l = sym (first-none f n (λ s p h. none s p (omega arith)))
 
 pub range-at : (ps es : List ℕ) (i : ℕ) → outOfRange ps es (i + 1) ≡ not (inRange (getD ps i 0) (getD es i 0))
 range-at ps es i = let e : i + 1 - 1 ≡ i = omega arith in rw e
@@ -67,22 +88,6 @@ module _ (ps es : List ℕ) (some-task : 1 ≤ length ps) (few : length ps ≤ 1
   pub row-none : first (outOfRange ps es) (length ps) ≤ 0 → first (falls ps) (length ps) ≤ 0 → 0 ≡ tasksRow ps es
   unfolding late
   row-none h k = sym (counted ∙ rw (le-ltb _ _ h) (rw (le-ltb _ _ k)))
-
-and-both : (a b : Bool) → (a && b) ≡ true → (a ≡ true) × (b ≡ true)
-and-both true b h = (refl, h)
-and-both false b h = absurd (clash refl (sym h))
-
-pub is-within : (x n : ℕ) → within x n ≡ true → (1 ≤ x) × (x ≤ n)
-is-within x n h = let w = and-both (leb 1 x) (leb x n) h in (leb-true _ _ (w .0), leb-true _ _ (w .1))
-
-pub in-range : (p e : ℕ) → inRange p e ≡ true → ((1 ≤ p) × (p ≤ 2000)) × ((1 ≤ e) × (e ≤ p))
-in-range p e h =
-    let both = and-both (within p 2000) (within e p) h in
-    (is-within p 2000 (both .0), is-within e p (both .1))
-
-or-neither : (a b : Bool) → (a || b) ≡ false → (a ≡ false) × (b ≡ false)
-or-neither true b h = absurd (clash refl h)
-or-neither false b h = (refl, h)
 
 -- lists that no row refuses
 module _ (ps es : List ℕ) (m : miscounted ps es ≡ false)

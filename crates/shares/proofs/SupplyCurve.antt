@@ -1,15 +1,15 @@
 -- The laws of the supply curve on which the search rests: the shortest length that supplies d ticks, that it is the inverse of supply,
--- and that it falls as the budget grows. Another form of supply needs these laws again and nothing else. Assumes nothing.
-use Prim.Native.Nat.{ℕ, zero, suc, _+_, _*_, _-_, _/_, _%_, _≤_, _<_, max}
-use mathlib.Core.Path.{_≡_, refl, ap, sym, _∙_, subst}
-use mathlib.Core.Bool.{Bool, true, false, cond}
-use mathlib.Core.Logic.{_⊎_, inl, inr, ⊎-elim}
+-- and that it falls as the budget grows. Another form of supply needs these laws and those of model's proofs/Supply.antt again and
+-- nothing else. Assumes nothing.
+use Prim.Native.Nat.{ℕ, _+_, _*_, _-_, _/_, _%_, _≤_, _<_}
+use mathlib.Core.Path.{_≡_, ap, _∙_}
+use mathlib.Core.Logic.{_⊎_, inl, inr}
 use native.Mathlib.Omega.{arith}
-use native.Mathlib.Nat.{div-add-mod', mod-lt, mul-le-mul, mul-le-mul-left, mul-le-mul-right, mul-add, add-mul}
-use lib.Dec.{ltb, leb}
-use borrow.Author.Tests.{lt-ltb, le-ltb}
-use Rattle.shares.specs.Supply.{supplyOf}
-use Rattle.shares.proofs.Numbers.{div-mono, div-anti, below-or-from}
+use native.Mathlib.Nat.{div-add-mod', mod-lt, mul-le-mul, mul-le-mul-left, mul-le-mul-right, mul-add}
+use Rattle.model.specs.Supply.{supplyOf}
+use Rattle.model.proofs.Tests.{below-or-from}
+use Rattle.model.proofs.Supply.{supply-short, supply-long}
+use Rattle.shares.proofs.Numbers.{div-mono, div-anti}
 
 -- how much longer than d ticks the shortest length is over which d ticks are supplied, and that length
 abbrev pub waitedOf : ℕ → ℕ → ℕ → ℕ
@@ -17,14 +17,6 @@ waitedOf P B d = (P - B) * (2 + (d - 1) / B)
 
 abbrev pub reachOf : ℕ → ℕ → ℕ → ℕ
 reachOf P B d = d + waitedOf P B d
-
-pub supply-short : (P B t : ℕ) → t < P - B → supplyOf P B t ≡ 0
-unfolding supplyOf
-supply-short P B t h = rw (lt-ltb _ _ h)
-
-pub supply-long : (P B t : ℕ) → P - B ≤ t → supplyOf P B t ≡ (t - (P - B)) / P * B + (t - (2 * (P - B) + (t - (P - B)) / P * P))
-unfolding supplyOf
-supply-long P B t h = rw (le-ltb _ _ h) (omega arith)
 
 -- with P = B + g, t = g + y·P + r and d = k·B + s + 1, both sides are sums of products of these
 module _ (B g y r k s : ℕ) (r-lt : r < B + g) (s-lt : s < B) where
@@ -109,11 +101,3 @@ pub supply-grows : (P B C t d : ℕ) → 1 ≤ B → B ≤ C → C ≤ P → 1 �
 supply-grows P B C t d pos h fits some-d enough =
     reached P C t d (omega arith) fits some-d
     (omega (arith, reach-falls P B C d pos h fits, reaches P B t d pos (omega arith) some-d enough))
-
--- and is never more than the length
-pub supply-most : (P B t : ℕ) → 1 ≤ B → B ≤ P → supplyOf P B t ≤ t
-supply-most P B t pos fits = go (below-or-from t (supplyOf P B t))
-  where
-    go : (t < supplyOf P B t) ⊎ (supplyOf P B t ≤ t) → supplyOf P B t ≤ t
-    go (inr le) = le
-    go (inl lt) = omega (arith, reaches P B t (supplyOf P B t) pos fits (omega arith) (omega arith))

@@ -1,17 +1,16 @@
 -- The table of demands, cell by cell: one more cell, and the padding between the last task and the next length.
 -- Assumes nothing.
-use Prim.Native.Nat.{ℕ, zero, suc, _+_, _*_, _-_, _/_, _%_, _≤_, _<_}
-use mathlib.Core.Path.{_≡_, refl, ap, sym, _∙_}
+use Prim.Native.Nat.{ℕ, suc, _+_, _*_, _-_, _/_, _%_, _≤_, _<_}
+use mathlib.Core.Path.{_≡_, _∙_}
 use mathlib.Core.List.{List}
 use mathlib.Core.Logic.{_⊎_, inl, inr}
 use native.Mathlib.Omega.{arith}
-use native.Mathlib.Nat.{le-suc-iff}
 use native.Mathlib.Numerals.{add-one}
 use lib.ListN.{length, getD, set}
 use lib.Seq.{getD-set-same, getD-set-other}
-use Rattle.shares.specs.Demand.{ceil, demandOf}
+use Rattle.model.specs.Demand.{ceil, demandOf}
+use Rattle.model.proofs.Tests.{below-or-from}
 use Rattle.shares.specs.Table.{Cells}
-use Rattle.shares.proofs.Numbers.{below-or-from}
 
 -- the term of the task at i, on the sum of those before it
 pub demand-next : (ps es : List ℕ) (i t : ℕ) → demandOf ps es (i + 1) t ≡ demandOf ps es i t + ceil t (getD ps i 0) * getD es i 0

@@ -1,8 +1,8 @@
 -- The walk of `first_budget` over budgets, tasks and lengths: what it knows on the way, what each step keeps, and what it has found at the end.
 -- It rests on the laws of supply and demand and not on their formulas. Assumes nothing.
-use Prim.Native.Nat.{ℕ, zero, suc, _+_, _*_, _-_, _≤_, _<_}
-use mathlib.Core.Path.{_≡_, refl, ap, sym, _∙_, subst}
-use mathlib.Core.Bool.{Bool, true, false, _&&_}
+use Prim.Native.Nat.{ℕ, zero, suc, _+_, _-_, _≤_, _<_}
+use mathlib.Core.Path.{_≡_, sym}
+use mathlib.Core.Bool.{true, false, _&&_}
 use mathlib.Core.List.{List}
 use mathlib.Core.Logic.{_⊎_, inl, inr}
 use native.Mathlib.Omega.{arith}
@@ -10,13 +10,13 @@ use native.Mathlib.Nat.{le-trans}
 use lib.Dec.{leb}
 use borrow.Author.Tests.{le-leb, lt-leb, leb-true}
 use lib.ListN.{length, getD}
-use Rattle.shares.specs.Search.{somewhere, everywhere, first}
-use Rattle.shares.specs.Supply.{supplyOf}
-use Rattle.shares.specs.Demand.{demandOf}
-use Rattle.shares.specs.Share.{enough, meets, passes}
+use Rattle.model.specs.Search.{first}
+use Rattle.model.specs.Supply.{supplyOf}
+use Rattle.model.specs.Demand.{demandOf}
+use Rattle.model.specs.Share.{enough, meets, passes}
+use Rattle.model.proofs.Tests.{below-or-from, and-true, and-right, and-left}
+use Rattle.model.proofs.Places.{somewhere-at, nowhere, everywhere-at, everywhere-all, somewhere-grows, first-at, first-none}
 use Rattle.shares.specs.Table.{Tasks}
-use Rattle.shares.proofs.Numbers.{below-or-from}
-use Rattle.shares.proofs.Places.{somewhere-at, nowhere, everywhere-at, everywhere-all, somewhere-grows, first-at, first-none, and-true, and-right, and-left}
 use Rattle.shares.proofs.SupplyCurve.{waitedOf, reachOf, waited-grows, reached, reaches, supply-grows}
 use Rattle.shares.proofs.DemandCurve.{demand-longer, demand-more, demand-some}
 

@@ -1,10 +1,4 @@
--- The definitions that the contracts of this crate cite, in reading order. Assumes nothing.
-pub mod Search
-pub mod Supply
-pub mod Demand
-pub mod Share
-pub mod Reply
-pub mod Rows
+-- What the contracts of this crate cite beside the definitions of `model`: the answers as the paper's replies (Paper), and what private
+-- functions promise each other (Table). Assumes nothing.
+pub mod Paper
 pub mod Table
-pub mod Meaning
-pub mod Examples

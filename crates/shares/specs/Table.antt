@@ -6,9 +6,8 @@ use mathlib.Core.Bool.{false, cond}
 use lib.Dec.{ltb, eqb}
 use mathlib.Core.List.{List}
 use lib.ListN.{length, getD}
-use Rattle.shares.specs.declared.answers.Share.{Share}
-use Rattle.shares.specs.Demand.{demandOf}
-use Rattle.shares.specs.Share.{passes}
+use Rattle.model.specs.Demand.{demandOf}
+use Rattle.model.specs.Share.{Share, passes}
 
 -- 1 to 16 tasks, each of a period from 1 to 2,000 and a cost from 1 to its period, no period below the one before
 pub record Tasks (periods costs : List ℕ) : Type 0 where

@@ -1,4 +1,4 @@
-// What the public functions answer. specs/Reply.antt gives the paper's number and values for each case.
+// What the public functions answer. specs/Paper.antt gives the paper's number and values for each case.
 
 // A row of the table of reply numbers, with its detail.
 pub struct Refusal {

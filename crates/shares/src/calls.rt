@@ -19,10 +19,10 @@ use crate::table::fill;
 ghost use mathlib.Core.Path.{_≡_};
 ghost use Prim.Native.Nat.{_≤_, _<_};
 ghost use lib.ListN.{length};
-ghost use Rattle.shares.specs.Demand.{demandOf};
+ghost use Rattle.model.specs.Demand.{demandOf};
+ghost use Rattle.model.specs.Rows.{supplyReply, demandReply, checkReply, leastReply, bestReply};
 ghost use Rattle.shares.specs.Table.{Tasks};
-ghost use Rattle.shares.specs.Reply.{paperTicks, paperVerdict, paperBudget, paperInterface};
-ghost use Rattle.shares.specs.Rows.{supplyReply, demandReply, checkReply, leastReply, bestReply};
+ghost use Rattle.shares.specs.Paper.{paperTicks, paperVerdict, paperBudget, paperInterface};
 
 fn refusal(number: u32) -> Refusal
     ensures { λ r. ⌜ (r .number ≡ number) × (r .detail ≡ 0) ⌝ }

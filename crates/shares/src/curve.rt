@@ -2,7 +2,7 @@
 // are supplied over every length of d + waited(p, b, d) or more, and over no other.
 ghost use mathlib.Core.Path.{_≡_};
 ghost use Prim.Native.Nat.{_+_, _*_, _-_, _/_, _≤_};
-ghost use Rattle.shares.specs.Supply.{supplyOf};
+ghost use Rattle.model.specs.Supply.{supplyOf};
 
 pub(crate) fn supplied(p: u32, b: u32, t: u32) -> u32
     requires { ⌜ (1 ≤ b) × (b ≤ p) × (p ≤ 2000) × (t ≤ 2000) ⌝ }

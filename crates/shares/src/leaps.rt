@@ -5,7 +5,7 @@ use crate::table::wide;
 ghost use mathlib.Core.Path.{_≡_};
 ghost use Prim.Native.Nat.{_+_, _*_, _-_, _≤_, _<_};
 ghost use lib.ListN.{length, getD};
-ghost use Rattle.shares.specs.Demand.{demandOf};
+ghost use Rattle.model.specs.Demand.{demandOf};
 ghost use Rattle.shares.specs.Table.{Tasks, Filled, Leaps, Entering, longest, leapOf};
 
 // The next length to look at for a task whose demand d asks for `spare` ticks to spare.

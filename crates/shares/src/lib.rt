@@ -1,7 +1,7 @@
 // The sizing half: supply and demand of the periodic resource model, the check of a task list with
 // (period, budget), the least budget for a period, and the best interface up to a largest period.
-// Every rule is document 01's, "Supply, demand, least share" and rows 30 to 35; it depends on nothing
-// of the scheduler. Task lists are two lent slices, periods and costs, only read.
+// Every rule is document 01's, "Supply, demand, least share" and rows 30 to 35, as crate `model` defines
+// them; it depends on nothing of the scheduler. Task lists are two lent slices, periods and costs, only read.
 mod answers;
 mod calls;
 mod curve;

@@ -2,8 +2,8 @@
 ghost use mathlib.Core.Path.{_≡_};
 ghost use Prim.Native.Nat.{_≤_};
 ghost use lib.ListN.{length};
-ghost use Rattle.shares.specs.Search.{first};
-ghost use Rattle.shares.specs.Rows.{within, inRange, outOfRange, falls, tasksRow};
+ghost use Rattle.model.specs.Search.{first};
+ghost use Rattle.model.specs.Rows.{within, inRange, outOfRange, falls, tasksRow};
 
 pub(crate) const MOST_TASKS: usize = 16;
 

@@ -8,8 +8,9 @@ ghost use mathlib.Core.Path.{_≡_};
 ghost use mathlib.Core.Bool.{_&&_};
 ghost use lib.Dec.{leb};
 ghost use Prim.Native.Nat.{_+_, _≤_, _<_};
-ghost use Rattle.shares.specs.Search.{first};
-ghost use Rattle.shares.specs.Share.{passes, bestOf};
+ghost use Rattle.model.specs.Search.{first};
+ghost use Rattle.model.specs.Share.{passes, bestOf};
+ghost use Rattle.shares.specs.Paper.{paperShare};
 ghost use Rattle.shares.specs.Table.{Ready, NoneUpTo, Offered, capOf, replacedBy};
 
 // The first budget from `from` to `to` that passes, 0 where none does. Loops over budgets, tasks and
@@ -109,8 +110,8 @@ pub(crate) fn least_under(
 
 // The largest budget with which the period p is no worse than the best share so far.
 fn cap_of(best: Share, p: u32) -> u32
-    requires { ⌜ Offered best × (p ≤ 2000) ⌝ }
-    ensures { λ r. ⌜ r ≡ capOf best p ⌝ }
+    requires { ⌜ Offered (paperShare best) × (p ≤ 2000) ⌝ }
+    ensures { λ r. ⌜ r ≡ capOf (paperShare best) p ⌝ }
 {
     if best.budget == 0 {
         return p;
@@ -120,7 +121,7 @@ fn cap_of(best: Share, p: u32) -> u32
 
 // The share (p, budget) where there is a budget, else the best so far.
 fn replaced(best: Share, p: u32, budget: u32) -> Share
-    ensures { λ r. ⌜ r ≡ replacedBy best p budget ⌝ }
+    ensures { λ r. ⌜ paperShare r ≡ replacedBy (paperShare best) p budget ⌝ }
 {
     if budget == 0 {
         return best;
@@ -138,7 +139,7 @@ pub(crate) fn best_share(
     p_max: u32,
 ) -> Share
     requires { ⌜ Ready (now periods) (now costs) (now demands) (now leaps) «p_max» ⌝ }
-    ensures { λ r. ⌜ r ≡ bestOf (now (periods .entry)) (now (costs .entry)) «p_max» ⌝ }
+    ensures { λ r. ⌜ paperShare r ≡ bestOf (now (periods .entry)) (now (costs .entry)) «p_max» ⌝ }
 {
     let mut best = Share {
         period: 0,

@@ -3,7 +3,7 @@
 ghost use mathlib.Core.Path.{_≡_};
 ghost use Prim.Native.Nat.{_+_, _*_, _-_, _/_, _≤_, _<_};
 ghost use lib.ListN.{length};
-ghost use Rattle.shares.specs.Demand.{ceil};
+ghost use Rattle.model.specs.Demand.{ceil};
 ghost use Rattle.shares.specs.Table.{Tasks, Filled, longest};
 
 // A cell as a number of ticks. (The cast alone asks for the cell's bound at each place.)

@@ -1,6 +1,6 @@
 -- What `shares` answers is written as the paper's reply. Assumes nothing.
 use Rattle.queries.specs.Text.{lineOf}
-use Rattle.shares.specs.Reply.{paperBudget}
+use Rattle.shares.specs.Paper.{paperBudget}
 use mathlib.Core.Path.{sym, _∙_, ap}
 use borrow.Author.Needs.{needs}
 use Rattle.queries.proofs.answer.of_budget.Statement.{statement}

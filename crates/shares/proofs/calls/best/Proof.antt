@@ -1,16 +1,15 @@
--- `best` gives the complete reply of specs/Rows.antt. Assumes nothing.
+-- `best` gives the complete reply of model's specs/Rows.antt. Assumes nothing.
 use borrow.Author.Needs.{needs}
-use Rattle.shares.proofs.RowLaws.{tasks-fit, is-within}
-use Rattle.shares.specs.declared.answers.Share.{Share}
-use Rattle.shares.proofs.ReplyLaws.{refused, best-rows, best-33, best-34, best-gives}
+use Rattle.model.specs.Share.{Share}
+use Rattle.model.specs.Reply.{refuses, gives}
+use Rattle.model.proofs.Replies.{is-within}
+use Rattle.shares.proofs.RowLaws.{tasks-fit}
 use lib.ListN.{length-replicate}
-use mathlib.Core.List.{List, [], _∷_}
-use Rattle.shares.specs.Reply.{refuses, gives}
+use mathlib.Core.List.{[], _∷_}
+use Rattle.shares.proofs.ReplyLaws.{refused, best-rows, best-33, best-34, best-gives}
 use borrow.Author.Tests.{not-true, not-false}
-use native.Mathlib.Omega.{arith}
-use mathlib.Core.Bool.{true, false}
-use mathlib.Core.Path.{_≡_, refl, sym, _∙_, ap, subst}
-use Prim.Native.Nat.{ℕ, suc, _+_, _*_, _-_, _≤_, _<_}
+use mathlib.Core.Path.{sym, _∙_, ap}
+use Prim.Native.Nat.{ℕ, _-_}
 use Rattle.shares.proofs.calls.best.Statement.{statement}
 use Rattle.shares.proofs.calls.best.Tie as tie
 

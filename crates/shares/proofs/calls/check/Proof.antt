@@ -1,18 +1,17 @@
--- `check` gives the complete reply of specs/Rows.antt: the search from the budget to itself. Assumes nothing.
+-- `check` gives the complete reply of model's specs/Rows.antt: the search from the budget to itself. Assumes nothing.
 use borrow.Author.Needs.{needs}
+use Rattle.model.specs.Reply.{refuses}
+use Rattle.model.proofs.Replies.{in-range}
 use Rattle.shares.proofs.Budgets.{one-fails, one-passes}
-use Rattle.shares.proofs.RowLaws.{tasks-fit, in-range}
+use Rattle.shares.proofs.RowLaws.{tasks-fit}
 use Rattle.shares.proofs.LeapLaws.{leaps-zero, zeros}
-use Rattle.shares.proofs.ReplyLaws.{refused, check-rows, check-33, check-gives}
 use lib.ListN.{replicate}
 use lib.ListN.{length-replicate}
-use mathlib.Core.List.{List, [], _∷_}
-use Rattle.shares.specs.Reply.{refuses, gives}
+use Rattle.shares.proofs.ReplyLaws.{refused, check-rows, check-33, check-gives}
 use borrow.Author.Tests.{not-true, not-false}
-use native.Mathlib.Omega.{arith}
 use mathlib.Core.Bool.{true, false}
-use mathlib.Core.Path.{_≡_, refl, sym, _∙_, ap, subst}
-use Prim.Native.Nat.{ℕ, suc, _+_, _*_, _-_, _≤_, _<_}
+use mathlib.Core.Path.{sym, _∙_, ap}
+use Prim.Native.Nat.{ℕ, _-_}
 use Rattle.shares.proofs.calls.check.Statement.{statement}
 use Rattle.shares.proofs.calls.check.Tie as tie
 

@@ -1,14 +1,12 @@
--- `demand` gives the complete reply of specs/Rows.antt. Assumes nothing.
+-- `demand` gives the complete reply of model's specs/Rows.antt. Assumes nothing.
 use borrow.Author.Needs.{needs}
+use Rattle.model.specs.Reply.{refuses, gives}
 use Rattle.shares.proofs.RowLaws.{tasks-fit}
+use mathlib.Core.List.{[], _∷_}
 use Rattle.shares.proofs.ReplyLaws.{refused, demand-rows, demand-long, demand-zero, demand-behind, demand-gives}
-use mathlib.Core.List.{List, [], _∷_}
-use Rattle.shares.specs.Reply.{refuses, gives}
-use borrow.Author.Tests.{not-true, not-false}
 use native.Mathlib.Omega.{arith}
-use mathlib.Core.Bool.{true, false}
-use mathlib.Core.Path.{_≡_, refl, sym, _∙_, ap}
-use Prim.Native.Nat.{ℕ, _≤_, _<_}
+use mathlib.Core.Path.{sym, _∙_, ap}
+use Prim.Native.Nat.{ℕ}
 use Rattle.shares.proofs.calls.demand.Statement.{statement}
 use Rattle.shares.proofs.calls.demand.Tie as tie
 

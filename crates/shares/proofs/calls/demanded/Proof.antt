@@ -1,13 +1,13 @@
--- `demanded` is the demand of specs/Demand.antt. The invariant: the sum is the demand of the tasks passed. Assumes nothing.
+-- `demanded` is the demand of model's specs/Demand.antt. The invariant: the sum is the demand of the tasks passed. Assumes nothing.
 use borrow.Author.Needs.{needs}
 use Prim.Native.Nat.{ℕ}
 use mathlib.Core.Path.{ap}
+use Rattle.model.specs.Demand.{demandOf}
 use Rattle.shares.proofs.TableLaws.{demand-next}
 use Rattle.shares.proofs.DemandCurve.{demand-most}
-use Rattle.shares.specs.Demand.{demandOf}
 use native.Mathlib.Omega.{arith}
-use mathlib.Core.Path.{_≡_, refl, sym, _∙_}
-use Prim.Native.Nat.{_+_, _-_, _≤_}
+use mathlib.Core.Path.{_≡_, refl, _∙_}
+use Prim.Native.Nat.{_-_, _≤_}
 use Rattle.shares.proofs.calls.demanded.Statement.{statement}
 use Rattle.shares.proofs.calls.demanded.Tie as tie
 

@@ -1,18 +1,17 @@
--- `least` gives the complete reply of specs/Rows.antt. Assumes nothing.
+-- `least` gives the complete reply of model's specs/Rows.antt. Assumes nothing.
 use borrow.Author.Needs.{needs}
-use Rattle.shares.proofs.RowLaws.{tasks-fit, is-within}
-use Rattle.shares.specs.Share.{passes, leastOf}
-use Rattle.shares.specs.Search.{first}
-use Rattle.shares.proofs.ReplyLaws.{refused, least-rows, least-33, least-34, least-gives}
+use Rattle.model.specs.Share.{passes, leastOf}
+use Rattle.model.specs.Search.{first}
+use Rattle.model.specs.Reply.{refuses, gives}
+use Rattle.model.proofs.Replies.{is-within}
+use Rattle.shares.proofs.RowLaws.{tasks-fit}
 use native.Mathlib.Nat.{le-refl}
 use lib.ListN.{length-replicate}
 use mathlib.Core.List.{List, [], _∷_}
-use Rattle.shares.specs.Reply.{refuses, gives}
+use Rattle.shares.proofs.ReplyLaws.{refused, least-rows, least-33, least-34, least-gives}
 use borrow.Author.Tests.{not-true, not-false}
-use native.Mathlib.Omega.{arith}
-use mathlib.Core.Bool.{true, false}
-use mathlib.Core.Path.{_≡_, refl, sym, _∙_, ap, subst}
-use Prim.Native.Nat.{ℕ, suc, _+_, _*_, _-_, _≤_, _<_}
+use mathlib.Core.Path.{_≡_, sym, _∙_, ap}
+use Prim.Native.Nat.{ℕ, _-_}
 use Rattle.shares.proofs.calls.least.Statement.{statement}
 use Rattle.shares.proofs.calls.least.Tie as tie
 

@@ -1,14 +1,12 @@
--- `supply` gives the complete reply of specs/Rows.antt. Assumes nothing.
+-- `supply` gives the complete reply of model's specs/Rows.antt. Assumes nothing.
 use borrow.Author.Needs.{needs}
-use Rattle.shares.proofs.RowLaws.{in-range}
+use Rattle.model.specs.Reply.{gives}
+use Rattle.model.proofs.Replies.{in-range}
+use mathlib.Core.List.{[], _∷_}
 use Rattle.shares.proofs.ReplyLaws.{refused, supply-33, supply-35, supply-gives}
-use mathlib.Core.List.{List, [], _∷_}
-use Rattle.shares.specs.Reply.{refuses, gives}
 use borrow.Author.Tests.{not-true, not-false}
-use native.Mathlib.Omega.{arith}
-use mathlib.Core.Bool.{true, false}
-use mathlib.Core.Path.{_≡_, refl, sym, _∙_, ap}
-use Prim.Native.Nat.{ℕ, _≤_, _<_}
+use mathlib.Core.Path.{sym, _∙_, ap}
+use Prim.Native.Nat.{ℕ}
 use Rattle.shares.proofs.calls.supply.Statement.{statement}
 use Rattle.shares.proofs.calls.supply.Tie as tie
 

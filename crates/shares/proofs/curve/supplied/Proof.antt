@@ -1,9 +1,9 @@
--- `supplied` is the supply of specs/Supply.antt: each branch is one of its cases. Assumes nothing.
+-- `supplied` is the supply of model's specs/Supply.antt: each branch is one of its cases. Assumes nothing.
 use borrow.Author.Needs.{needs}
 use Prim.Native.Nat.{_-_}
-use Rattle.shares.proofs.SupplyCurve.{supply-short, supply-long}
+use Rattle.model.proofs.Supply.{supply-short, supply-long}
 use Rattle.shares.proofs.Bounds.{whole-most}
-use mathlib.Core.Path.{sym, _∙_}
+use mathlib.Core.Path.{sym}
 use native.Mathlib.Nat.{le-refl}
 use native.Mathlib.Omega.{arith}
 use Rattle.shares.proofs.curve.supplied.Statement.{statement}

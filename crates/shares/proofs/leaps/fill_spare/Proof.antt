@@ -1,14 +1,12 @@
 -- `fill_spare` enters a length for each number of ticks to spare that no shorter one has. The invariant: what is entered is right. Assumes nothing.
 use borrow.Author.Needs.{needs}
+use Rattle.model.specs.Demand.{demandOf}
+use Rattle.shares.specs.Table.{Entering}
 use Rattle.shares.proofs.LeapLaws.{leaps-more, none-longer, none-more-spare}
 use Rattle.shares.proofs.DemandCurve.{demand-most}
 use Rattle.shares.proofs.TableLaws.{demand-next}
-use Rattle.shares.specs.Table.{Entering}
-use Rattle.shares.specs.Demand.{demandOf}
-use lib.ListN.{length}
 use native.Mathlib.Omega.{arith}
-use mathlib.Core.Path.{_≡_, refl, sym, _∙_, ap, subst}
-use Prim.Native.Nat.{ℕ, suc, _+_, _*_, _-_, _≤_, _<_}
+use Prim.Native.Nat.{suc, _+_, _*_, _-_, _≤_, _<_}
 use Rattle.shares.proofs.leaps.fill_spare.Statement.{statement}
 use Rattle.shares.proofs.leaps.fill_spare.Tie as tie
 

@@ -1,12 +1,12 @@
 -- `fill_task` enters one task. The invariant: what the lengths passed have to spare is entered. Assumes nothing.
 use borrow.Author.Needs.{needs}
-use Rattle.shares.proofs.TableLaws.{cell-at}
-use Rattle.shares.proofs.DemandCurve.{demand-some, under-longest, longest-most}
+use Rattle.model.specs.Demand.{demandOf}
 use Rattle.shares.specs.Table.{Entering, Leaps}
-use Rattle.shares.specs.Demand.{demandOf}
-use lib.ListN.{length, getD}
+use Rattle.shares.proofs.TableLaws.{cell-at}
+use Rattle.shares.proofs.DemandCurve.{demand-some, under-longest}
+use lib.ListN.{getD}
 use native.Mathlib.Omega.{arith}
-use mathlib.Core.Path.{_≡_, refl, sym, _∙_, ap, subst}
+use mathlib.Core.Path.{_≡_, _∙_, ap, subst}
 use Prim.Native.Nat.{ℕ, suc, _+_, _*_, _-_, _≤_, _<_}
 use Rattle.shares.proofs.leaps.fill_task.Statement.{statement}
 use Rattle.shares.proofs.leaps.fill_task.Tie as tie

@@ -1,13 +1,13 @@
 -- `first_fall` gives the first place at which row 32 applies. The invariant: none of the places passed. Assumes nothing.
 use borrow.Author.Needs.{needs}
-use Rattle.shares.proofs.RowLaws.{fall-at, fall-none}
-use Rattle.shares.specs.Rows.{falls}
-use Rattle.shares.proofs.Places.{NoneOf, none-more, none-found, none-at-all}
+use Rattle.model.specs.Rows.{falls}
+use Rattle.model.proofs.Places.{NoneOf}
+use Rattle.shares.proofs.RowLaws.{fall-at, fall-none, none-more, none-found, none-at-all}
 use borrow.Author.Tests.{lt-ltb, le-ltb}
 use lib.ListN.{length}
 use native.Mathlib.Omega.{arith}
-use mathlib.Core.Path.{_≡_, sym, _∙_}
-use Prim.Native.Nat.{_+_, _-_, _≤_}
+use mathlib.Core.Path.{_∙_}
+use Prim.Native.Nat.{_-_, _≤_}
 use Rattle.shares.proofs.rows.first_fall.Statement.{statement}
 use Rattle.shares.proofs.rows.first_fall.Tie as tie
 

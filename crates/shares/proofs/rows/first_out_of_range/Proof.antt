@@ -1,14 +1,13 @@
 -- `first_out_of_range` gives the first place at which row 31 applies. The invariant: none of the places passed. Assumes nothing.
 use borrow.Author.Needs.{needs}
-use Rattle.shares.proofs.RowLaws.{range-at}
+use Rattle.model.specs.Rows.{outOfRange}
 use mathlib.Core.Path.{ap}
 use mathlib.Core.Bool.{not}
-use Rattle.shares.specs.Rows.{outOfRange}
-use Rattle.shares.proofs.Places.{NoneOf, none-yet, none-more, none-found, none-at-all}
-use lib.ListN.{length}
+use Rattle.model.proofs.Places.{NoneOf}
+use Rattle.shares.proofs.RowLaws.{range-at, none-yet, none-more, none-found, none-at-all}
 use native.Mathlib.Omega.{arith}
-use mathlib.Core.Path.{_≡_, sym, _∙_}
-use Prim.Native.Nat.{_+_, _-_, _≤_}
+use mathlib.Core.Path.{sym, _∙_}
+use Prim.Native.Nat.{_-_, _≤_}
 use Rattle.shares.proofs.rows.first_out_of_range.Statement.{statement}
 use Rattle.shares.proofs.rows.first_out_of_range.Tie as tie
 

@@ -1,8 +1,8 @@
--- `is_in_range` is the test of specs/Rows.antt. Assumes nothing.
+-- `is_in_range` is the test of model's specs/Rows.antt. Assumes nothing.
 use borrow.Author.Needs.{needs}
 use mathlib.Core.Path.{_≡_, sym, _∙_}
 use mathlib.Core.Bool.{true, false}
-use Rattle.shares.specs.Rows.{within}
+use Rattle.model.specs.Rows.{within}
 use Rattle.shares.proofs.rows.is_in_range.Statement.{statement}
 use Rattle.shares.proofs.rows.is_in_range.Tie as tie
 

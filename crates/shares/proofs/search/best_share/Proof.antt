@@ -1,19 +1,18 @@
--- `best_share` is the best share of specs/Share.antt. The invariant: the best of the periods passed. Assumes nothing.
+-- `best_share` is the best share of model's specs/Share.antt. The invariant: the best of the periods passed. Assumes nothing.
 use borrow.Author.Needs.{needs}
+use Rattle.model.specs.Share.{Share, passes, bestOf}
+use Rattle.model.specs.Search.{first}
+use Rattle.shares.specs.Paper.{paperShare}
+use Rattle.shares.specs.Table.{Offered, replacedBy}
 use Rattle.shares.proofs.BestShare.{cap-most, best-next, best-offered}
-use Rattle.shares.specs.Table.{Ready, Offered, capOf, replacedBy}
-use Rattle.shares.specs.Share.{passes, bestOf}
-use Rattle.shares.specs.Search.{first}
-use Rattle.shares.specs.declared.answers.Share.{Share}
 use native.Mathlib.Omega.{arith}
-use mathlib.Core.List.{List}
 use mathlib.Core.Path.{_≡_, refl, sym, _∙_, ap, subst}
-use Prim.Native.Nat.{ℕ, suc, _+_, _*_, _-_, _≤_, _<_}
+use Prim.Native.Nat.{ℕ, _+_, _-_, _≤_}
 use Rattle.shares.proofs.search.best_share.Statement.{statement}
 use Rattle.shares.proofs.search.best_share.Tie as tie
 
 abbrev Inv-loop : tie.InvT-loop
-Inv-loop periods costs demands leaps p-max best₀ p₀ p-end best p = (1 ≤ p) × (p ≤ p-max + 1) × (best ≡ bestOf periods costs (p - 1))
+Inv-loop periods costs demands leaps p-max best₀ p₀ p-end best p = (1 ≤ p) × (p ≤ p-max + 1) × (paperShare best ≡ bestOf periods costs (p - 1))
 
 abbrev μ-loop : tie.MeasureT-loop
 μ-loop periods costs demands leaps p-max best₀ p₀ p-end best p = (p-max + 1) - p
@@ -26,7 +25,7 @@ unfolding bestOf
 loop-holds c = (omega arith, omega arith, refl)
 
 -- what stands at the loop's head is a share in range, or none
-offered : (c : tie.In-loop Inv-loop μ-loop) → Offered (c .before .loop .best)
+offered : (c : tie.In-loop Inv-loop μ-loop) → Offered (paperShare (c .before .loop .best))
 offered c =
     let l = c .before .loop in
     let s = c .before .before .before .before .before .before in
@@ -41,7 +40,7 @@ least-under-requires c κs =
     let l = c .before .before .loop in
     let r = c .before .before .before .before .before .before .before .pre in (
       record { tasks = r .tasks; table = r .table; leaps-table = r .leaps-table; period-least = l .inv .0; period-most = omega (arith, r .period-most) },
-      subst (λ (n : ℕ). n ≤ l .p) (sym (c .cap-of .ensures)) (cap-most (l .best) (l .p) (offered (c .before))),
+      subst (λ (n : ℕ). n ≤ l .p) (sym (c .cap-of .ensures)) (cap-most (paperShare (l .best)) (l .p) (offered (c .before))),
     )
 
 replaced-requires : tie.Need-replaced-requires Inv-loop μ-loop
@@ -60,7 +59,7 @@ loop-again c =
     let found = c .before .least-under .ensures ∙ ap (first (passes (l .p) (a .periods .now) (a .costs .now))) (c .before .before .cap-of .ensures) in (
       omega arith,
       omega arith,
-      c .replaced .ensures ∙ ap (replacedBy (l .best) (l .p)) found ∙ best-next (a .periods .now) (a .costs .now) (l .best) (l .p) (l .inv .0) (offered (c .before .before .before)) (l .inv .2),
+      c .replaced .ensures ∙ ap (replacedBy (paperShare (l .best)) (l .p)) found ∙ best-next (a .periods .now) (a .costs .now) (paperShare (l .best)) (l .p) (l .inv .0) (offered (c .before .before .before)) (l .inv .2),
     )
 
 returns : tie.Need-returns Inv-loop μ-loop

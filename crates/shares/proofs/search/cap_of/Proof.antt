@@ -1,5 +1,5 @@
 -- `cap_of` is the cap of specs/Table.antt. Assumes nothing.
-use borrow.Author.Needs.{needs}
+use Rattle.shares.specs.Paper.{paperShare}
 use Rattle.shares.proofs.BestShare.{cap-none, cap-some}
 use native.Mathlib.Nat.{mul-le-mul}
 use native.Mathlib.Omega.{arith}
@@ -10,7 +10,7 @@ use Rattle.shares.proofs.search.cap_of.Tie as tie
 returns : tie.Need-returns
 returns c =
     let a = c .before .before .args in
-    sym (cap-none (a .best) (a .p) (c .if1 .taken))
+    sym (cap-none (paperShare (a .best)) (a .p) (c .if1 .taken))
 
 mul-result : tie.Need-mul-result
 mul-result c =
@@ -23,7 +23,7 @@ div-result c = omega (arith, c .before .before .if1 .left, c .before .before .be
 returns-2 : tie.Need-returns-2
 returns-2 c =
     let a = c .before .before .before .before .args in
-    sym (cap-some (a .best) (a .p) (c .before .before .if1 .left))
+    sym (cap-some (paperShare (a .best)) (a .p) (c .before .before .if1 .left))
 
 pub cap-of-spec : {M : Type 1} → statement M
 cap-of-spec = tie.close (tie.spec returns mul-result div-result returns-2)

@@ -1,13 +1,13 @@
 -- `first_budget` finds the first budget that passes. The invariant of all three loops is the walk of proofs/Walk.antt; the inner ones add that
 -- the budget, and within the lengths the task, is the one that the loop began with. Assumes nothing.
 use borrow.Author.Needs.{needs}
+use Rattle.model.specs.Demand.{demandOf}
+use Rattle.shares.specs.Table.{Ready, longest, leapOf}
 use Rattle.shares.proofs.Walk.{Walk, NoneBetween, walk-start, walk-met, walk-jump, walk-fails, walk-none, walk-found}
 use Rattle.shares.proofs.LeapLaws.{leap-none, leap-least}
 use Rattle.shares.proofs.TableLaws.{cell-at}
-use Rattle.shares.proofs.SupplyCurve.{waitedOf, reachOf}
+use Rattle.shares.proofs.SupplyCurve.{waitedOf}
 use Rattle.shares.proofs.DemandCurve.{demand-some, demand-most, under-longest, longest-most}
-use Rattle.shares.specs.Table.{Ready, Tasks, longest, leapOf}
-use Rattle.shares.specs.Demand.{demandOf}
 use lib.ListN.{length, getD}
 use native.Mathlib.Omega.{arith}
 use mathlib.Core.List.{List}

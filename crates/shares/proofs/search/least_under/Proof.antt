@@ -1,12 +1,11 @@
 -- `least_under` is the least budget up to `cap`: where `cap` fails nothing passes, else the search begins above a failing budget. Assumes nothing.
-use borrow.Author.Needs.{needs}
+use Rattle.model.specs.Share.{passes}
+use Rattle.model.specs.Search.{first}
+use Rattle.model.proofs.Places.{first-none, first-at}
 use Rattle.shares.proofs.Budgets.{fails-below, one-fails, one-passes, skip}
-use Rattle.shares.proofs.Places.{first-none, first-at}
-use Rattle.shares.specs.Share.{passes}
-use Rattle.shares.specs.Search.{first}
 use native.Mathlib.Omega.{arith}
-use mathlib.Core.Path.{_≡_, refl, sym, _∙_, ap, subst}
-use Prim.Native.Nat.{ℕ, suc, _+_, _*_, _-_, _≤_, _<_}
+use mathlib.Core.Path.{sym, _∙_, ap}
+use Prim.Native.Nat.{_-_, _≤_}
 use Rattle.shares.proofs.search.least_under.Statement.{statement}
 use Rattle.shares.proofs.search.least_under.Tie as tie
 

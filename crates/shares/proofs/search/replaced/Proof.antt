@@ -1,5 +1,5 @@
 -- `replaced` is the share of specs/Table.antt. Assumes nothing.
-use borrow.Author.Needs.{needs}
+use Rattle.shares.specs.Paper.{paperShare}
 use Rattle.shares.proofs.BestShare.{replaced-none, replaced-some}
 use mathlib.Core.Path.{sym}
 use Rattle.shares.proofs.search.replaced.Statement.{statement}
@@ -8,12 +8,12 @@ use Rattle.shares.proofs.search.replaced.Tie as tie
 returns : tie.Need-returns
 returns c =
     let a = c .before .args in
-    sym (replaced-none (a .best) (a .p) (a .budget) (c .if1 .taken))
+    sym (replaced-none (paperShare (a .best)) (a .p) (a .budget) (c .if1 .taken))
 
 returns-2 : tie.Need-returns-2
 returns-2 c =
     let a = c .before .args in
-    sym (replaced-some (a .best) (a .p) (a .budget) (c .if1 .left))
+    sym (replaced-some (paperShare (a .best)) (a .p) (a .budget) (c .if1 .left))
 
 pub replaced-spec : {M : Type 1} → statement M
 replaced-spec = tie.close (tie.spec returns returns-2)

@@ -1,4 +1,4 @@
--- `demand_of_one` is one term of the sum of specs/Demand.antt, and at most 4,000. Assumes nothing.
+-- `demand_of_one` is one term of the sum of model's specs/Demand.antt, and at most 4,000. Assumes nothing.
 use borrow.Author.Needs.{needs}
 use mathlib.Core.Path.{refl}
 use Rattle.shares.proofs.DemandCurve.{one-most}

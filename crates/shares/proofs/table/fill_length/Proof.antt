@@ -1,14 +1,14 @@
 -- `fill_length` fills the cells of one length. The invariant: the cells before are right, and the sum is the demand of the tasks passed.
 -- Assumes nothing.
 use borrow.Author.Needs.{needs}
+use Rattle.model.specs.Demand.{demandOf}
+use Rattle.shares.specs.Table.{Cells}
 use Rattle.shares.proofs.TableLaws.{demand-next, cells-more, cells-padded}
 use Rattle.shares.proofs.DemandCurve.{demand-most}
-use Rattle.shares.specs.Table.{Cells}
-use Rattle.shares.specs.Demand.{demandOf}
 use lib.ListN.{length, length-set}
 use native.Mathlib.Omega.{arith}
-use mathlib.Core.Path.{_≡_, refl, sym, _∙_, ap, subst}
-use Prim.Native.Nat.{ℕ, suc, _+_, _*_, _-_, _≤_, _<_}
+use mathlib.Core.Path.{_≡_, refl, _∙_, subst}
+use Prim.Native.Nat.{ℕ, suc, _+_, _*_, _-_, _≤_}
 use Rattle.shares.proofs.table.fill_length.Statement.{statement}
 use Rattle.shares.proofs.table.fill_length.Tie as tie
 

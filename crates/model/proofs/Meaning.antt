@@ -10,12 +10,11 @@ use native.Mathlib.Nat.{le-suc-iff, eq-zero-or-pos, mul-right-comm, mul-le-mul-r
 use lib.Dec.{leb, eqb}
 use borrow.Author.Tests.{le-leb, leb-true, leb-false, eqb-true, eqb-false}
 use lib.ListN.{length, getD}
-use Rattle.shares.specs.declared.answers.Share.{Share}
-use Rattle.shares.specs.Search.{somewhere}
-use Rattle.shares.specs.Share.{enough, meets, passes, leastOf, better, bestOf}
-use Rattle.shares.specs.Meaning.{Met, Pass, IsLeast, NoBudget, IsBest, NoShare}
-use Rattle.shares.proofs.Numbers.{below-or-from}
-use Rattle.shares.proofs.Places.{tested, clash, somewhere-at, everywhere-has, everywhere-all, Smallest, first-smallest}
+use Rattle.model.specs.Search.{somewhere}
+use Rattle.model.specs.Share.{Share, enough, meets, passes, leastOf, better, bestOf}
+use Rattle.model.specs.Meaning.{Met, Pass, IsLeast, NoBudget, IsBest, NoShare}
+use Rattle.model.proofs.Tests.{tested, clash, below-or-from}
+use Rattle.model.proofs.Places.{somewhere-at, everywhere-has, everywhere-all, Smallest, first-smallest}
 
 -- a test that holds somewhere holds at a number
 somewhere-has : (f : ℕ → Bool) (n : ℕ) → somewhere f n ≡ true → (t : ℕ) × (1 ≤ t) × (t ≤ n) × (f t ≡ true)

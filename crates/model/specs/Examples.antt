@@ -3,8 +3,8 @@
 use Prim.Native.Nat.{ℕ}
 use mathlib.Core.Path.{_≡_}
 use mathlib.Core.List.{List, [], _∷_}
-use Rattle.shares.specs.Reply.{Reply, gives, refuses}
-use Rattle.shares.specs.Rows.{supplyReply, demandReply, checkReply, leastReply, bestReply}
+use Rattle.model.specs.Reply.{Reply, gives, refuses}
+use Rattle.model.specs.Rows.{supplyReply, demandReply, checkReply, leastReply, bestReply}
 
 -- a task list: task k is at k - 1 in both
 pub record Work : Type 0 where

@@ -1,16 +1,15 @@
--- Document 01, "Reply numbers", rows 30 to 35, in the table's order, and the complete reply of each public function.
+-- Document 01, "Reply numbers", rows 30 to 35, in the table's order, and the complete reply of each public function of `shares`.
 -- Assumes nothing.
-use Prim.Native.Nat.{ℕ, zero, suc, _-_}
+use Prim.Native.Nat.{ℕ, _-_}
 use mathlib.Core.Bool.{Bool, true, false, cond, not, _&&_, _||_}
 use mathlib.Core.List.{List, [], _∷_}
 use lib.Dec.{leb, ltb, eqb}
 use lib.ListN.{length, getD}
-use Rattle.shares.specs.declared.answers.Share.{Share}
-use Rattle.shares.specs.Search.{first}
-use Rattle.shares.specs.Supply.{supplyOf}
-use Rattle.shares.specs.Demand.{demandOf}
-use Rattle.shares.specs.Share.{passes, leastOf, bestOf}
-use Rattle.shares.specs.Reply.{Reply, gives, refuses}
+use Rattle.model.specs.Search.{first}
+use Rattle.model.specs.Supply.{supplyOf}
+use Rattle.model.specs.Demand.{demandOf}
+use Rattle.model.specs.Share.{passes, leastOf, bestOf}
+use Rattle.model.specs.Reply.{Reply, gives, refuses}
 
 -- x from 1 to n
 abbrev pub within : ℕ → ℕ → Bool

@@ -5,10 +5,14 @@ use mathlib.Core.Bool.{Bool, cond}
 use mathlib.Core.List.{List}
 use lib.Dec.{leb, eqb}
 use lib.ListN.{length, getD}
-use Rattle.shares.specs.declared.answers.Share.{Share}
-use Rattle.shares.specs.Search.{somewhere, everywhere, first}
-use Rattle.shares.specs.Supply.{supplyOf}
-use Rattle.shares.specs.Demand.{demandOf}
+use Rattle.model.specs.Search.{somewhere, everywhere, first}
+use Rattle.model.specs.Supply.{supplyOf}
+use Rattle.model.specs.Demand.{demandOf}
+
+-- a resource period and the budget that is had in each of them
+pub record Share : Type 0 where
+  pub period : ℕ
+  pub budget : ℕ
 
 -- the test of one length: supply is at least the demand of the first i tasks
 abbrev pub enough : ℕ → ℕ → List ℕ → List ℕ → ℕ → ℕ → Bool

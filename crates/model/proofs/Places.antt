@@ -1,44 +1,13 @@
 -- What somewhere, everywhere and first mean, each way round: a place with the test, the test at all places, the smallest place.
 -- Assumes nothing.
-use Prim.Native.Nat.{ℕ, zero, suc, _+_, _≤_, _<_}
-use mathlib.Core.Path.{_≡_, refl, ap, sym, _∙_}
+use Prim.Native.Nat.{ℕ, zero, suc, _≤_, _<_}
+use mathlib.Core.Path.{_≡_, refl, sym}
 use mathlib.Core.Bool.{Bool, true, false, cond, _&&_, _||_}
 use mathlib.Core.Logic.{_⊎_, inl, inr}
 use native.Mathlib.Omega.{arith}
 use native.Mathlib.Nat.{le-suc-iff}
-use Rattle.shares.specs.Search.{somewhere, everywhere, orElse, first}
-
-pub or-right : (a b : Bool) → b ≡ true → (a || b) ≡ true
-or-right true b h = refl
-or-right false b h = h
-
-pub or-left : (a b : Bool) → a ≡ true → (a || b) ≡ true
-or-left true b h = refl
-or-left false b h = let z : true ≡ false = sym h in cc
-
-pub or-false : (a b : Bool) → a ≡ false → b ≡ false → (a || b) ≡ false
-or-false true b h k = h
-or-false false b h k = k
-
-pub and-true : (a b : Bool) → a ≡ true → b ≡ true → (a && b) ≡ true
-and-true true b h k = k
-and-true false b h k = h
-
-pub and-right : (a b : Bool) → b ≡ false → (a && b) ≡ false
-and-right true b h = h
-and-right false b h = refl
-
-pub and-left : (a b : Bool) → a ≡ false → (a && b) ≡ false
-and-left true b h = let z : true ≡ false = h in cc
-and-left false b h = refl
-
--- a test holds or it does not
-pub tested : (b : Bool) → (b ≡ true) ⊎ (b ≡ false)
-tested true = inl refl
-tested false = inr refl
-
-pub clash : {b : Bool} → b ≡ true → b ≡ false → ⊥
-clash p q = let z : _≡_ {A = ℕ} 0 1 = cc in omega arith
+use Rattle.model.specs.Search.{somewhere, everywhere, orElse, first}
+use Rattle.model.proofs.Tests.{or-right, or-left, or-false, and-true, and-right, and-left, tested, clash}
 
 module _ (f : ℕ → Bool) where
   pub somewhere-at : (n t : ℕ) → 1 ≤ t → t ≤ n → f t ≡ true → somewhere f n ≡ true
@@ -126,25 +95,9 @@ pub smallest-first : (f : ℕ → Bool) (n r : ℕ) → Smallest f n r → first
 smallest-first f n zero i = first-none f n (i .none refl)
 smallest-first f n (suc r) i = first-at f n (suc r) (omega arith) (i .most) (i .holds (omega arith)) (i .least)
 
--- a loop that looks at place 1, 2, .. and leaves at the first that has the test: what it knows after i places
+-- at none of the places from 1 to i
 abbrev pub NoneOf : (ℕ → Bool) → ℕ → Type 0
 NoneOf f i = (s : ℕ) → 1 ≤ s → s ≤ i → f s ≡ false
-
-pub none-yet : (f : ℕ → Bool) → NoneOf f 0
-none-yet f s p l = absurd (omega arith)
-
-pub none-more : (f : ℕ → Bool) (i : ℕ) → NoneOf f i → f (i + 1) ≡ false → NoneOf f (i + 1)
-none-more f i none e s p l = go (le-suc-iff .0 (omega arith))
-  where
-    go : (s ≤ i) ⊎ (s ≡ suc i) → f s ≡ false
-    go (inl below) = none s p below
-    go (inr here) = let h : s ≡ i + 1 = omega arith in rw h e
-
-pub none-found : (f : ℕ → Bool) (n i : ℕ) → NoneOf f i → i < n → f (i + 1) ≡ true → i + 1 ≡ first f n
-none-found f n i none l e = sym (first-at f n (i + 1) (omega arith) (omega arith) e (λ s p h. none s p (omega arith)))
-
-pub none-at-all : (f : ℕ → Bool) (n i : ℕ) → NoneOf f i → n ≤ i → 0 ≡ first f n
-none-at-all f n i none l = sym (first-none f n (λ s p h. none s p (omega arith)))
 
 -- where a test grows, so does its holding somewhere
 pub somewhere-grows : (f g : ℕ → Bool) (n : ℕ) → ((t : ℕ) → 1 ≤ t → f t ≡ true → g t ≡ true) → somewhere f n ≡ true → somewhere g n ≡ true

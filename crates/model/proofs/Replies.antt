@@ -7,18 +7,25 @@ use mathlib.Core.List.{List, [], _∷_}
 use mathlib.Core.Logic.{_⊎_, inl, inr, _↔_}
 use native.Mathlib.Omega.{arith}
 use native.Mathlib.Nat.{eq-zero-or-pos}
-use lib.Dec.{ltb, eqb}
-use borrow.Author.Tests.{lt-ltb, le-leb, ltb-false, eqb-true, eqb-false, ne-eqb}
+use lib.Dec.{leb, ltb, eqb}
+use borrow.Author.Tests.{lt-ltb, le-leb, leb-true, ltb-false, eqb-true, eqb-false, ne-eqb}
 use lib.ListN.{length}
-use Rattle.shares.specs.declared.answers.Share.{Share}
-use Rattle.shares.specs.Search.{first}
-use Rattle.shares.specs.Share.{leastOf, bestOf}
-use Rattle.shares.specs.Reply.{Reply, gives, refuses}
-use Rattle.shares.specs.Rows.{within, row, miscounted, outOfRange, falls, tasksRow, tasksRows, leastReply, bestReply}
-use Rattle.shares.specs.Meaning.{IsLeast, NoBudget, IsBest, NoShare, Accepted}
-use Rattle.shares.proofs.Places.{clash, NoneOf, first-none, first-smallest}
-use Rattle.shares.proofs.RowLaws.{is-within}
-use Rattle.shares.proofs.Meaning.{same-share, least-means, least-none, least-only, best-means, best-none, best-only}
+use Rattle.model.specs.Search.{first}
+use Rattle.model.specs.Share.{Share, leastOf, bestOf}
+use Rattle.model.specs.Reply.{Reply, gives, refuses}
+use Rattle.model.specs.Rows.{within, inRange, row, miscounted, outOfRange, falls, tasksRow, tasksRows, leastReply, bestReply}
+use Rattle.model.specs.Meaning.{IsLeast, NoBudget, IsBest, NoShare, Accepted}
+use Rattle.model.proofs.Tests.{clash, and-both}
+use Rattle.model.proofs.Places.{NoneOf, first-none, first-smallest}
+use Rattle.model.proofs.Meaning.{same-share, least-means, least-none, least-only, best-means, best-none, best-only}
+
+pub is-within : (x n : ℕ) → within x n ≡ true → (1 ≤ x) × (x ≤ n)
+is-within x n h = let w = and-both (leb 1 x) (leb x n) h in (leb-true _ _ (w .0), leb-true _ _ (w .1))
+
+pub in-range : (p e : ℕ) → inRange p e ≡ true → ((1 ≤ p) × (p ≤ 2000)) × ((1 ≤ e) × (e ≤ p))
+in-range p e h =
+    let both = and-both (within p 2000) (within e p) h in
+    (is-within p 2000 (both .0), is-within e p (both .1))
 
 first-some : (f : ℕ → Bool) (n k : ℕ) → 1 ≤ k → k ≤ n → f k ≡ true → ltb 0 (first f n) ≡ true
 first-some f n k p l h = go (eq-zero-or-pos (first f n))

@@ -4,10 +4,10 @@ use Prim.Native.Nat.{ℕ, _-_, _*_, _≤_}
 use mathlib.Core.Path.{_≡_}
 use mathlib.Core.List.{List}
 use lib.ListN.{length, getD}
-use Rattle.shares.specs.declared.answers.Share.{Share}
-use Rattle.shares.specs.Supply.{supplyOf}
-use Rattle.shares.specs.Demand.{demandOf}
-use Rattle.shares.specs.Rows.{tasksRow}
+use Rattle.model.specs.Supply.{supplyOf}
+use Rattle.model.specs.Demand.{demandOf}
+use Rattle.model.specs.Share.{Share}
+use Rattle.model.specs.Rows.{tasksRow}
 
 -- there is a whole t from 1 to p_i with supply at least demand
 pub record Met (P B : ℕ) (periods costs : List ℕ) (i : ℕ) : Type 0 where

@@ -3,20 +3,20 @@
 use Prim.Native.Nat.{ℕ, _≤_}
 use mathlib.Core.Path.{_≡_, refl}
 use native.Mathlib.Omega.{arith}
-use Rattle.shares.specs.Supply.{supplyOf}
-use Rattle.shares.specs.Share.{meets, passes, leastOf, better, bestOf}
-use Rattle.shares.specs.Reply.{refuses}
-use Rattle.shares.specs.Rows.{tasksRow, tasksRows, supplyReply, demandReply, checkReply, leastReply, bestReply}
-use Rattle.shares.specs.Meaning.{NoBudget}
-use Rattle.shares.specs.Examples.{least, W11, replyTo, Hold, examples}
-use Rattle.shares.proofs.SupplyCurve.{supply-most}
-use Rattle.shares.proofs.Replies.{least-34}
+use Rattle.model.specs.Supply.{supplyOf}
+use Rattle.model.specs.Share.{meets, passes, leastOf, better, bestOf}
+use Rattle.model.specs.Reply.{refuses}
+use Rattle.model.specs.Rows.{tasksRow, tasksRows, supplyReply, demandReply, checkReply, leastReply, bestReply}
+use Rattle.model.specs.Meaning.{NoBudget}
+use Rattle.model.specs.Examples.{least, W11, replyTo, Hold, examples}
+use Rattle.model.proofs.Supply.{supply-most}
+use Rattle.model.proofs.Replies.{least-34}
 
 -- task 2 of P11 demands 3, 3, 5, 5 at t = 1 .. 4
 too-much : (P : ℕ) → NoBudget P (W11 .periods) (W11 .costs)
 too-much P B from to pass =
     let m = pass 2 (omega arith) (omega arith) in
-    absurd (omega (arith, m .from-1, m .to-p, m .enough, supply-most P B (m .t) from to))
+    absurd (omega (arith, m .from-1, m .to-p, m .enough, supply-most P B (m .t) to))
 
 p11 : (P : ℕ) → 1 ≤ P → P ≤ 2000 → replyTo (least W11 P) ≡ refuses 34 0
 unfolding tasksRow

@@ -1,7 +1,8 @@
--- The paper's reply, a result or a refusal, and for each answer of this crate the paper's number and values in each of its cases.
+-- For each answer of this crate the paper's number and values in each of its cases.
 -- Assumes nothing.
-use Prim.Native.Nat.{ℕ}
-use mathlib.Core.List.{List, [], _∷_}
+use mathlib.Core.List.{[], _∷_}
+use Rattle.model.specs.Share.{Share as PaperShare}
+use Rattle.model.specs.Reply.{Reply, gives, refuses}
 use Rattle.shares.specs.declared.answers.Refusal.{Refusal}
 use Rattle.shares.specs.declared.answers.Share.{Share}
 use Rattle.shares.specs.declared.answers.Ticks.{Ticks}
@@ -13,13 +14,12 @@ use Rattle.shares.specs.declared.answers.Budget.the-variants.{Least, No 
 use Rattle.shares.specs.declared.answers.Interface.{Interface}
 use Rattle.shares.specs.declared.answers.Interface.the-variants.{Best, No as NoInterface}
 
--- a result's values, or a refusal's number and detail
-pub data Reply : Type 0 where
-  gives : List ℕ → Reply
-  refuses : ℕ → ℕ → Reply
-
 abbrev pub paperRefusal : Refusal → Reply
 paperRefusal r = refuses (r .number) (r .detail)
+
+-- the paper's (P, B)
+abbrev pub paperShare : Share → PaperShare
+paperShare s = record { period = s .period; budget = s .budget }
 
 -- a number of ticks
 abbrev pub paperTicks : Ticks → Reply

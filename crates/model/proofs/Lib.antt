@@ -1,0 +1,8 @@
+-- The theorems on what the definitions mean (Meaning, Replies) and P1 to P12 (Examples), and the laws that carry them.
+-- Assumes nothing.
+pub mod Meaning
+pub mod Replies
+pub mod Examples
+pub mod Tests
+pub mod Places
+pub mod Supply

@@ -1,0 +1,56 @@
+-- Tests: one holds or it does not, what two say together, and whether a number is below another.
+-- Assumes nothing.
+use Prim.Native.Nat.{ℕ, _≤_, _<_}
+use mathlib.Core.Path.{_≡_, refl, sym}
+use mathlib.Core.Bool.{Bool, true, false, _&&_, _||_}
+use mathlib.Core.Logic.{_⊎_, inl, inr}
+use native.Mathlib.Omega.{arith}
+use lib.Dec.{ltb}
+use borrow.Author.Tests.{ltb-true, ltb-false}
+
+pub or-right : (a b : Bool) → b ≡ true → (a || b) ≡ true
+or-right true b h = refl
+or-right false b h = h
+
+pub or-left : (a b : Bool) → a ≡ true → (a || b) ≡ true
+or-left true b h = refl
+or-left false b h = let z : true ≡ false = sym h in cc
+
+pub or-false : (a b : Bool) → a ≡ false → b ≡ false → (a || b) ≡ false
+or-false true b h k = h
+or-false false b h k = k
+
+pub and-true : (a b : Bool) → a ≡ true → b ≡ true → (a && b) ≡ true
+and-true true b h k = k
+and-true false b h k = h
+
+pub and-right : (a b : Bool) → b ≡ false → (a && b) ≡ false
+and-right true b h = h
+and-right false b h = refl
+
+pub and-left : (a b : Bool) → a ≡ false → (a && b) ≡ false
+and-left true b h = let z : true ≡ false = h in cc
+and-left false b h = refl
+
+-- a test holds or it does not
+pub tested : (b : Bool) → (b ≡ true) ⊎ (b ≡ false)
+tested true = inl refl
+tested false = inr refl
+
+pub clash : {b : Bool} → b ≡ true → b ≡ false → ⊥
+clash p q = let z : _≡_ {A = ℕ} 0 1 = cc in omega arith
+
+pub and-both : (a b : Bool) → (a && b) ≡ true → (a ≡ true) × (b ≡ true)
+and-both true b h = (refl, h)
+and-both false b h = absurd (clash refl (sym h))
+
+pub or-neither : (a b : Bool) → (a || b) ≡ false → (a ≡ false) × (b ≡ false)
+or-neither true b h = absurd (clash refl h)
+or-neither false b h = (refl, h)
+
+pub below-or-from : (m n : ℕ) → (m < n) ⊎ (n ≤ m)
+below-or-from m n = go (ltb m n) refl
+  where
+    go : (b : Bool) → ltb m n ≡ b → (m < n) ⊎ (n ≤ m)
+    go true e = inl (ltb-true m n e)
+    go false e = inr (ltb-false m n e)

@@ -1,0 +1,10 @@
+-- Document 01, "Supply, demand, least share", rows 30 to 35 and the sizing examples, in reading order. Meaning says the same as plain
+-- statements. Numbers are plain numbers here, however large. Assumes nothing.
+pub mod Search
+pub mod Supply
+pub mod Demand
+pub mod Share
+pub mod Reply
+pub mod Rows
+pub mod Meaning
+pub mod Examples
