@@ -1,9 +1,6 @@
--- The laws of `lines`: the digits of a number (Figures, Longest), what is written one after the other (Writing), what
--- reading promises (Reading), serving (Served), serving in parts (Parts), and that the promises allow one reply (OneReply).
--- Assumes nothing.
-pub mod Figures
+-- The laws of `lines`: how long a line can be (Longest), what reading promises (Reading), serving (Served), serving in parts
+-- (Parts), and that the promises allow one reply (OneReply). Assumes nothing.
 pub mod Longest
-pub mod Writing
 pub mod Reading
 pub mod Served
 pub mod Parts

@@ -1,10 +1,7 @@
--- No line is longer than the room that `serve` keeps for one, and the digits of a number say that number. Assumes nothing.
-use Prim.Native.Nat.{ℕ, zero, suc, _+_, _-_, _*_, _/_, _%_, _^_, _≤_, _<_}
-use mathlib.Core.Path.{_≡_, refl, ap, _∙_}
-use mathlib.Core.List.{List, [], _∷_, _++_}
-use mathlib.Core.Logic.{_⊎_, inl, inr}
+-- No line is longer than the room that `serve` keeps for one. Assumes nothing.
+use Prim.Native.Nat.{ℕ, _+_, _≤_}
+use mathlib.Core.List.{List, [], _∷_}
 use native.Mathlib.Omega.{arith}
-use native.Mathlib.Nat.{pow-suc, div-lt-iff-lt-mul}
 use lib.ListN.{length, length-append}
 use Rattle.turns.specs.declared.Holder.{Holder}
 use Rattle.turns.specs.declared.Holder.the-variants.{Idle, Vcpu}
@@ -12,8 +9,9 @@ use Rattle.turns.specs.declared.Timer.{Timer}
 use Rattle.turns.specs.declared.Timer.the-variants.{Unset, At}
 use Rattle.turns.specs.declared.Reply.{Reply}
 use Rattle.turns.specs.declared.Reply.the-variants.{Done, No}
-use Rattle.lines.specs.Text.{figures, decimal, holderText, timerText, fields, lineOf, longest}
-use Rattle.lines.proofs.Figures.{figures-length, figures-one, figures-step, one-or-more}
+use Rattle.text.specs.Text.{decimal, fields}
+use Rattle.lines.specs.Text.{holderText, timerText, lineOf, longest}
+use Rattle.text.proofs.Figures.{figures-length}
 
 holder-most : (h : Holder) → length (holderText h) ≤ 20
 holder-most Idle = omega arith
@@ -41,24 +39,3 @@ line-most (No r) =
     let a = field-most (decimal (r .detail)) [] 1 (figures-length 20 (r .detail)) (omega arith) in
     let b = field-most (decimal (r .number)) m 22 (figures-length 20 (r .number)) a in
     omega (arith, b)
-
--- the number that digits say
-abbrev pub said : ℕ → List ℕ → ℕ
-said n [] = n
-said n (d ∷ ds) = said (n * 10 + (d - 48)) ds
-
-said-append : (n : ℕ) (xs : List ℕ) (d : ℕ) → said n (xs ++ (d ∷ [])) ≡ said n xs * 10 + (d - 48)
-said-append n [] d = refl
-said-append n (x ∷ xs) d = said-append (n * 10 + (x - 48)) xs d
-
-figures-say : (k n : ℕ) → n < 10 ^ suc k → said 0 (figures (suc k) n) ≡ n
-figures-say zero n h = ap (said 0) (figures-one 0 n h) ∙ omega arith
-figures-say (suc k) n h = go (one-or-more n) (figures-say k (n / 10) (div-lt-iff-lt-mul (omega arith) .1 (rw pow-suc at h)))
-  where
-    go : (n < 10) ⊎ (10 ≤ n) → said 0 (figures (suc k) (n / 10)) ≡ n / 10 → said 0 (figures (suc (suc k)) n) ≡ n
-    go (inl few) r = ap (said 0) (figures-one (suc k) n few) ∙ omega arith
-    go (inr some) r =
-        ap (said 0) (figures-step (suc k) n some) ∙ said-append 0 (figures (suc k) (n / 10)) (48 + n % 10) ∙ omega (arith, r)
-
-pub decimal-says : (n : ℕ) → n < 2 ^ 64 → said 0 (decimal n) ≡ n
-decimal-says n h = figures-say 19 n (omega arith)

@@ -22,9 +22,10 @@ use Rattle.records.specs.declared.answers.Read.the-variants.{Event as Got, No}
 use Rattle.records.specs.Answer.{readSpec}
 use Rattle.records.specs.Encode.{sizeOf}
 use Rattle.lines.specs.declared.serving.Served.{Served}
-use Rattle.lines.specs.Text.{lineOf, refusalText, longest, over, Put}
+use Rattle.text.specs.Text.{over, Put}
+use Rattle.lines.specs.Text.{lineOf, refusalText, longest}
 use Rattle.lines.specs.Serve.{Run, timeOf, changeOf, rests, stops, waitsFor, refuses, behind, full, less, answers, served, serveOf, handed}
-use Rattle.lines.proofs.Writing.{sets-append, put-size}
+use Rattle.text.proofs.Writing.{sets-append, put-size}
 use Rattle.lines.proofs.Reading.{some-bytes, within}
 
 -- where nothing is left, or no room, nothing more is answered

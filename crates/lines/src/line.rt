@@ -1,5 +1,5 @@
 // The line of a reply: `ok TIME RUN USABLE TIMER` or `no NUMBER DETAIL`, and a newline.
-use crate::digits::put_number;
+use text::put_number;
 use turns::Holder;
 use turns::Refusal;
 use turns::Reply;
@@ -9,7 +9,8 @@ ghost use Prim.Native.Nat.{_+_, _≤_};
 ghost use mathlib.Core.Path.{_≡_};
 ghost use mathlib.Core.List.{[], _∷_};
 ghost use lib.ListN.{length};
-ghost use Rattle.lines.specs.Text.{decimal, dash, holderText, timerText, reportText, refusalText, lineOf, lineIn, over, Put};
+ghost use Rattle.text.specs.Text.{decimal, over, Put};
+ghost use Rattle.lines.specs.Text.{dash, holderText, timerText, reportText, refusalText, lineOf, lineIn};
 
 // No line has more bytes: two letters, four numbers of at most 20 digits, each behind a space, and a newline.
 pub const LONGEST_LINE: usize = 87;

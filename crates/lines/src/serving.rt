@@ -14,7 +14,7 @@ ghost use mathlib.Core.Path.{_≡_};
 ghost use mathlib.Core.Option.{some};
 ghost use lib.ListN.{length};
 ghost use Rattle.turns.specs.State.{ValidCore};
-ghost use Rattle.lines.specs.Text.{over};
+ghost use Rattle.text.specs.Text.{over};
 ghost use Rattle.lines.specs.Serve.{timeOf, changeOf, refusalOf, waitsFor, serveOf, handed};
 
 const CUT_SHORT: u8 = 20;

@@ -11,7 +11,8 @@ use borrow.Author.Tests.{lt-ltb, lt-leb, ltb-false, leb-true}
 use Rattle.model.specs.Reply.{Reply}
 use Rattle.model.specs.Rows.{within, inRange, row, supplyReply}
 use Rattle.queries.specs.Reading.{figured}
-use Rattle.queries.specs.Meaning.{isDigit, allDigits, numberFrom}
+use Rattle.text.specs.Text.{numberFrom}
+use Rattle.queries.specs.Meaning.{isDigit, allDigits}
 use Rattle.queries.proofs.Readings.{capped, digitStep}
 
 -- equal, or both above m

@@ -1,10 +1,11 @@
--- The laws that the proofs of this crate's functions cite. Assumes nothing.
+-- The laws that the proofs of this crate's functions cite, and the theorems: what a line means (Meaning), a whole input (Inputs), and that
+-- each promise allows one reply (OneReply). Assumes nothing.
 pub mod Places
 pub mod Steps
 pub mod Asking
 pub mod Writing
 pub mod Parts
-pub mod Replies
+pub mod OneReply
 pub mod Fields
 pub mod Readings
 pub mod Kept

@@ -15,10 +15,11 @@ use Rattle.queries.specs.declared.ask.Word.the-variants.{Supply, Demand,
 use Rattle.queries.specs.declared.ask.Spoken.{Spoken}
 use Rattle.queries.specs.declared.ask.Spoken.the-variants.{Known, Unknown}
 use Rattle.queries.specs.declared.line.Line.{Line}
+use Rattle.text.specs.Text.{number}
 use Rattle.queries.specs.Text.{said, badField, lineOf, Written}
 use Rattle.queries.specs.Reading.{startLine, fedBytes}
 use Rattle.queries.specs.Answer.{most, firstBad, replyOf, wordAnswer, answerOf}
-use Rattle.queries.specs.Meaning.{heads, firstBadField, isEmpty, trimmed, untilSpace, fieldsOf, spokenOf, allDigits, number, everyOther, replyWith, fieldsMean, bytesMean, lineMeans}
+use Rattle.queries.specs.Meaning.{heads, firstBadField, isEmpty, trimmed, untilSpace, fieldsOf, spokenOf, allDigits, everyOther, replyWith, fieldsMean, bytesMean, lineMeans}
 use Rattle.queries.proofs.Asking.{heads-stand}
 use Rattle.queries.proofs.Steps.{fed-append}
 use Rattle.queries.proofs.Readings.{firstNoNumber, capped, readingOf, first-no-number}

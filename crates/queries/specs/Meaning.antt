@@ -1,10 +1,11 @@
 -- What a line means, read as a whole: from its bytes, without the newline, to the bytes of the answer.
 -- proofs/Meaning.antt shows that a line that is fed in parts is answered so. Assumes nothing.
-use Prim.Native.Nat.{ℕ, _+_, _-_, _*_, max}
+use Prim.Native.Nat.{ℕ, _-_, max}
 use mathlib.Core.Bool.{Bool, true, false, cond, not, _&&_, _||_}
 use mathlib.Core.List.{List, [], _∷_, map}
 use lib.Dec.{leb, ltb, eqb}
 use lib.ListN.{length, getD, drop}
+use Rattle.text.specs.Text.{number}
 use Rattle.model.specs.Search.{first}
 use Rattle.model.specs.Reply.{Reply}
 use Rattle.model.specs.Rows.{supplyReply, demandReply, checkReply, leastReply, bestReply}
@@ -59,14 +60,6 @@ allDigits (b ∷ bs) = isDigit b && allDigits bs
 -- a string of decimal digits
 abbrev pub isNumber : List ℕ → Bool
 isNumber field = not (isEmpty field) && allDigits field
-
--- the number that the digits behind n make of it
-abbrev pub numberFrom : ℕ → List ℕ → ℕ
-numberFrom n [] = n
-numberFrom n (b ∷ bs) = numberFrom (n * 10 + (b - 48)) bs
-
-abbrev pub number : List ℕ → ℕ
-number field = numberFrom 0 field
 
 -- how many fields a word has at the least, before its tasks
 abbrev pub heads : Word → ℕ

@@ -4,7 +4,8 @@ use mathlib.Core.Path.{_≡_}
 use mathlib.Core.Bool.{cond}
 use mathlib.Core.List.{List, [], _∷_, _++_}
 use lib.Dec.{ltb, eqb}
-use lib.ListN.{length, getD, drop}
+use lib.ListN.{length, getD}
+use Rattle.text.specs.Text.{over}
 use Rattle.queries.specs.declared.line.Line.{Line}
 use Rattle.queries.specs.declared.part.Served.{Served}
 use Rattle.queries.specs.Meaning.{lineMeans}
@@ -38,7 +39,7 @@ pub record ServedAs (p : Part) (input before after : List ℕ) (r : Served) : Ty
   pub used-is : r .used + length (p .rest) ≡ length input
   pub count-is : r .count ≡ length (p .text)
   pub fits : r .count ≤ length before
-  pub whole : after ≡ p .text ++ drop (length (p .text)) before
+  pub whole : after ≡ over (p .text) before
 
 -- between private functions: the first newline at or behind `from`, or the end
 pub record LineEnd (input : List ℕ) (from end : ℕ) : Type 0 where

@@ -1,39 +1,18 @@
 -- The lines that are written, as bytes: a text, then each number behind a space, then a newline. Assumes nothing.
-use Prim.Native.Nat.{ℕ, zero, suc, _+_, _/_, _%_, _≤_}
-use mathlib.Core.Bool.{cond}
-use mathlib.Core.List.{List, [], _∷_, _++_}
+use Prim.Native.Nat.{ℕ, _≤_}
+use mathlib.Core.List.{List, [], _∷_, _++_, map}
 use mathlib.Core.Path.{_≡_}
-use lib.Dec.{ltb}
-use lib.ListN.{length, drop}
-use lib.Seq.{sets}
+use lib.ListN.{length}
+use Rattle.text.specs.Text.{decimal, fields, ok, no, over}
 use Rattle.model.specs.Reply.{Reply, gives, refuses}
 use Rattle.queries.specs.declared.answer.Answer.{Answer}
 use Rattle.queries.specs.declared.answer.Answer.the-variants.{Nothing, BadWord, BadField, One, Two, No}
 
--- the decimal digits of n, the most significant first, at most k of them
-unfoldable pub figures : ℕ → ℕ → List ℕ
-figures zero n = []
-figures (suc k) n = cond (ltb n 10) ((48 + n) ∷ []) (figures k (n / 10) ++ ((48 + n % 10) ∷ []))
-
--- a number below 2 ^ 64 has at most 20
-abbrev pub decimal : ℕ → List ℕ
-decimal n = figures 20 n
-
--- each number behind a space, then a newline
-abbrev pub numbered : List ℕ → List ℕ
-numbered [] = 10 ∷ []
-numbered (n ∷ ns) = (32 ∷ decimal n) ++ numbered ns
-
+-- a text, then the numbers as fields
 abbrev pub said : List ℕ → List ℕ → List ℕ
-said text numbers = text ++ numbered numbers
+said text numbers = text ++ fields (map decimal numbers)
 
--- "ok", "no", "bad word", "bad field"
-abbrev pub ok : List ℕ
-ok = 111 ∷ 107 ∷ []
-
-abbrev pub no : List ℕ
-no = 110 ∷ 111 ∷ []
-
+-- "bad word", "bad field"
 abbrev pub badWord : List ℕ
 badWord = 98 ∷ 97 ∷ 100 ∷ 32 ∷ 119 ∷ 111 ∷ 114 ∷ 100 ∷ []
 
@@ -58,9 +37,4 @@ textOf (No n m) = said no (n ∷ m ∷ [])
 pub record Written (text before after : List ℕ) (n : ℕ) : Type 0 where
   pub count : n ≡ length text
   pub fits : n ≤ 64
-  pub whole : after ≡ text ++ drop (length text) before
-
--- between private functions: `after` is `before` with xs at the place `at`, and `next` is the place behind them
-pub record Put (before : List ℕ) (at : ℕ) (xs after : List ℕ) (next : ℕ) : Type 0 where
-  pub behind : next ≡ at + length xs
-  pub stored : after ≡ sets before at xs
+  pub whole : after ≡ over text before

@@ -1,9 +1,11 @@
 // The line that an answer is written as.
 use crate::answer::Answer;
+use text::put_number;
 ghost use mathlib.Core.List.{[], _∷_};
 ghost use Prim.Native.Nat.{_+_, _≤_};
 ghost use lib.ListN.{length};
-ghost use Rattle.queries.specs.Text.{textOf, decimal, Put, Written};
+ghost use Rattle.text.specs.Text.{decimal, Put};
+ghost use Rattle.queries.specs.Text.{textOf, Written};
 
 fn put(out: &mut [u8], at: usize, text: &[u8]) -> usize
     requires { ⌜ at + length (now text) ≤ length (now out) ⌝ }
@@ -15,19 +17,6 @@ fn put(out: &mut [u8], at: usize, text: &[u8]) -> usize
         k += 1;
     }
     at + k
-}
-
-fn put_number(out: &mut [u8; 64], at: usize, n: u64) -> usize
-    requires { ⌜ at + 20 ≤ 64 ⌝ }
-    ensures { λ r. ⌜ Put (now (out .entry)) at (decimal n) (now (out .exit)) r ⌝ }
-{
-    if n < 10 {
-        out[at] = 48 + n as u8;
-        return at + 1;
-    }
-    let next = put_number(out, at, n / 10);
-    out[next] = 48 + (n % 10) as u8;
-    next + 1
 }
 
 // A space and a number.

@@ -1,11 +1,8 @@
--- Any two replies that the promise of a public function allows for the same arguments are equal. The promise is the contract as the check
--- itself made it from the source (`Reads.Post`). Assumes nothing.
+-- Any two replies that the promise of a public function of `shares` allows are equal (`OneReply` of crate promise): the paper's number and
+-- values tell the answers apart. Assumes nothing.
 use Prim.Native.Nat.{ℕ}
 use mathlib.Core.Path.{_≡_, refl, ap, sym, _∙_}
-use mathlib.Core.List.{List}
-use contract.Lifetimes.{Lfts}
-use denote.Triple.Clauses.{AtExit}
-use borrow.Fn.Kinds.{PK, RK, Dens, resT, endedOf, Out}
+use Rattle.promise.specs.OneReply.{OneReply}
 use Rattle.shares.specs.declared.answers.Refusal.{Refusal}
 use Rattle.shares.specs.declared.answers.Share.{Share}
 use Rattle.shares.specs.declared.answers.Ticks.{Ticks}
@@ -27,11 +24,6 @@ use Rattle.shares.proofs.calls.least.Kinds as least
 use Rattle.shares.proofs.calls.least.Reads as least-promise
 use Rattle.shares.proofs.calls.best.Kinds as best
 use Rattle.shares.proofs.calls.best.Reads as best-promise
-
--- of a function with n lifetimes, parameters ps and result r: two results that its promise allows are one
-abbrev pub OneReply : (n : ℕ) (ps : List (PK n)) (r : RK n) → Out n ps r → Type 0
-OneReply n ps r Promise =
-    (κs : Lfts n) (args : Dens κs ps) (a b : resT r κs .Denot) (x y : AtExit (endedOf n ps r) κs) → Promise κs args a x → Promise κs args b y → a ≡ b
 
 -- a struct is its fields
 same-refusal : (r s : Refusal) → paperRefusal r ≡ paperRefusal s → r ≡ s

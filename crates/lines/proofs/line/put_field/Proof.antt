@@ -1,8 +1,7 @@
 -- `put_field` puts a space and a number. Assumes nothing.
 use native.Mathlib.Omega.{arith}
-use lib.ListN.{length-set}
 use borrow.Author.Needs.{needs}
-use Rattle.lines.proofs.Writing.{put-size, put-first}
+use Rattle.text.proofs.Writing.{put-size, put-spaced}
 use Rattle.lines.proofs.line.put_field.Statement.{statement}
 use Rattle.lines.proofs.line.put_field.Tie as tie
 
@@ -13,13 +12,17 @@ add-put-number : tie.Need-add-put-number
 add-put-number c = search needs
 
 put-number-requires : tie.Need-put-number-requires
-put-number-requires c κs = simp length-set (omega arith)
+put-number-requires c κs = search needs
 
 same-length : tie.Need-same-length
-same-length c = put-size (put-first (c .before .before .before .before .before .args .out .now) (c .before .before .before .before .before .args .at) 32 (c .before .before .put-number .ensures .0))
+same-length c =
+    let a = c .before .before .before .before .before .args in
+    put-size (put-spaced (a .out .now) (a .at) (a .n) (omega arith) (c .before .before .put-number .ensures) .0)
 
 returns : tie.Need-returns
-returns c = (put-first (c .before .before .before .before .before .args .out .now) (c .before .before .before .before .before .args .at) 32 (c .before .before .put-number .ensures .0), omega (arith, c .before .before .put-number .ensures .1))
+returns c =
+    let a = c .before .before .before .before .before .args in
+    put-spaced (a .out .now) (a .at) (a .n) (omega arith) (c .before .before .put-number .ensures)
 
 pub put-field-spec : {M : Type 1} → statement M
 put-field-spec =

@@ -2,7 +2,7 @@
 use mathlib.Core.Path.{sym, ap}
 use borrow.Author.Needs.{needs}
 use Rattle.lines.specs.Text.{lineOf}
-use Rattle.lines.proofs.Writing.{put-as}
+use Rattle.text.proofs.Writing.{put-as}
 use Rattle.lines.proofs.line.put_line.Statement.{statement}
 use Rattle.lines.proofs.line.put_line.Tie as tie
 

@@ -5,8 +5,8 @@ use mathlib.Core.Path.{_≡_, subst}
 use native.Mathlib.Omega.{arith}
 use lib.ListN.{set, length-set}
 use borrow.Author.Needs.{needs}
-use Rattle.lines.specs.Text.{Put}
-use Rattle.lines.proofs.Writing.{put-first, put-byte}
+use Rattle.text.specs.Text.{Put}
+use Rattle.text.proofs.Writing.{put-first, put-byte}
 use Rattle.lines.proofs.line.put_none.Statement.{statement}
 use Rattle.lines.proofs.line.put_none.Tie as tie
 

@@ -5,8 +5,8 @@ use mathlib.Core.Path.{_∙_, ap}
 use native.Mathlib.Omega.{arith}
 use lib.ListN.{length-set}
 use borrow.Author.Needs.{needs}
-use Rattle.lines.specs.Text.{decimal}
-use Rattle.lines.proofs.Writing.{put-size, put-letters, put-two, put-as}
+use Rattle.text.specs.Text.{decimal}
+use Rattle.text.proofs.Writing.{put-size, put-letters, put-two, put-as}
 use Rattle.lines.proofs.line.put_report.Statement.{statement}
 use Rattle.lines.proofs.line.put_report.Tie as tie
 use Rattle.units.proofs.Amount.ticks.Reads as Amount-ticks-reads

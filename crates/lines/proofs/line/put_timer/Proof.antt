@@ -4,8 +4,9 @@ use mathlib.Core.List.{_∷_}
 use mathlib.Core.Path.{sym, _∙_, ap}
 use borrow.Author.Needs.{needs}
 use Rattle.turns.specs.declared.Timer.{Timer}
-use Rattle.lines.specs.Text.{decimal, timerText}
-use Rattle.lines.proofs.Writing.{put-as}
+use Rattle.text.specs.Text.{decimal}
+use Rattle.lines.specs.Text.{timerText}
+use Rattle.text.proofs.Writing.{put-as}
 use Rattle.lines.proofs.line.put_timer.Statement.{statement}
 use Rattle.lines.proofs.line.put_timer.Tie as tie
 

@@ -3,7 +3,7 @@ use mathlib.Core.Path.{refl}
 use native.Mathlib.Omega.{arith}
 use borrow.Author.Needs.{needs}
 use borrow.Author.Tests.{lt-ltb, le-ltb}
-use Rattle.lines.proofs.Writing.{put-over}
+use Rattle.text.proofs.Writing.{put-over}
 use Rattle.lines.proofs.line.write_line.Statement.{statement}
 use Rattle.lines.proofs.line.write_line.Tie as tie
 

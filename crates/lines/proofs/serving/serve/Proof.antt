@@ -15,7 +15,7 @@ use Rattle.records.specs.Encode.{sizeOf}
 use Rattle.lines.specs.Serve.{timeOf, changeOf, refusalOf}
 use Rattle.lines.proofs.Served.{Going, going-start, going-next, going-end, going-full, going-waits, going-stops}
 use Rattle.lines.proofs.Reading.{some-bytes, within}
-use Rattle.lines.proofs.Writing.{put-size}
+use Rattle.text.proofs.Writing.{put-size}
 use Rattle.lines.proofs.serving.serve.Statement.{statement}
 use Rattle.lines.proofs.serving.serve.Tie as tie
 

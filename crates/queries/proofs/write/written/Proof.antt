@@ -1,5 +1,6 @@
 -- `written` writes an answer part after part: what was put stands in one piece. Assumes nothing.
-use Rattle.queries.proofs.Writing.{put-two, put-answer}
+use Rattle.text.proofs.Writing.{put-two}
+use Rattle.queries.proofs.Writing.{put-answer}
 use native.Mathlib.Omega.{arith}
 use borrow.Author.Needs.{needs}
 use Rattle.queries.proofs.write.written.Statement.{statement}

@@ -2,9 +2,9 @@
 use Prim.Native.Nat.{_/_}
 use native.Mathlib.Omega.{arith}
 use borrow.Author.Needs.{needs}
-use Rattle.lines.proofs.Figures.{figures-length, longer-four, longer-eight, longer-twelve, longer-sixteen}
-use Rattle.lines.proofs.digits.width.Statement.{statement}
-use Rattle.lines.proofs.digits.width.Tie as tie
+use Rattle.text.proofs.Figures.{figures-length, longer-four, longer-eight, longer-twelve, longer-sixteen}
+use Rattle.text.proofs.width.Statement.{statement}
+use Rattle.text.proofs.width.Tie as tie
 
 short-width-requires : tie.Need-short-width-requires
 short-width-requires c κs = search needs

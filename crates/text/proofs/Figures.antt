@@ -1,5 +1,6 @@
--- The decimal digits of a number are those of a tenth of it and one more, and how many there are. Assumes nothing.
-use Prim.Native.Nat.{ℕ, zero, suc, _+_, _/_, _%_, _^_, _≤_, _<_}
+-- The decimal digits of a number are those of a tenth of it and one more, how many there are, and that they say that number.
+-- Assumes nothing.
+use Prim.Native.Nat.{ℕ, zero, suc, _+_, _-_, _*_, _/_, _%_, _^_, _≤_, _<_}
 use mathlib.Core.Path.{_≡_, refl, ap, sym, _∙_}
 use mathlib.Core.Bool.{Bool, true, false}
 use mathlib.Core.Logic.{_⊎_, inl, inr}
@@ -9,7 +10,7 @@ use native.Mathlib.Nat.{pow-suc, div-lt-iff-lt-mul}
 use lib.Dec.{ltb}
 use lib.ListN.{length, length-append}
 use borrow.Author.Tests.{lt-ltb, le-ltb, ltb-true, ltb-false}
-use Rattle.lines.specs.Text.{figures, decimal}
+use Rattle.text.specs.Text.{figures, decimal, numberFrom, number}
 
 pub figures-one : (k n : ℕ) → n < 10 → figures (suc k) n ≡ (48 + n) ∷ []
 unfolding figures
@@ -117,3 +118,20 @@ longer-sixteen n some fits =
       longer-four (n / 1000000000000) (omega arith) (omega arith),
       ap (λ (m : ℕ). length (decimal m)) d,
     )
+
+number-append : (n : ℕ) (xs : List ℕ) (d : ℕ) → numberFrom n (xs ++ (d ∷ [])) ≡ numberFrom n xs * 10 + (d - 48)
+number-append n [] d = refl
+number-append n (x ∷ xs) d = number-append (n * 10 + (x - 48)) xs d
+
+figures-say : (k n : ℕ) → n < 10 ^ suc k → number (figures (suc k) n) ≡ n
+figures-say zero n h = ap number (figures-one 0 n h) ∙ omega arith
+figures-say (suc k) n h = go (one-or-more n) (figures-say k (n / 10) (div-lt-iff-lt-mul (omega arith) .1 (rw pow-suc at h)))
+  where
+    go : (n < 10) ⊎ (10 ≤ n) → number (figures (suc k) (n / 10)) ≡ n / 10 → number (figures (suc (suc k)) n) ≡ n
+    go (inl few) r = ap number (figures-one (suc k) n few) ∙ omega arith
+    go (inr some) r =
+        ap number (figures-step (suc k) n some) ∙ number-append 0 (figures (suc k) (n / 10)) (48 + n % 10) ∙ omega (arith, r)
+
+-- the digits of a number say that number
+pub decimal-says : (n : ℕ) → n < 2 ^ 64 → number (decimal n) ≡ n
+decimal-says n h = figures-say 19 n (omega arith)

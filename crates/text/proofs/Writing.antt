@@ -1,15 +1,16 @@
--- What is written one after the other stands in one piece, and a number that is written from its last digit to its
--- first stands as its digits. Assumes nothing.
+-- What is written one after the other stands in one piece, a number that is written from its last digit to its first stands
+-- as its digits, and where there is room `put_number` puts them. Assumes nothing.
 use Prim.Native.Nat.{ℕ, suc, _+_, _-_, _/_, _%_, _^_, _≤_, _<_}
 use mathlib.Core.Path.{_≡_, refl, ap, sym, _∙_}
 use mathlib.Core.List.{List, [], _∷_, _++_}
 use native.Mathlib.Omega.{arith}
 use native.Mathlib.Nat.{add-zero, zero-add, add-suc, suc-add}
 use native.Mathlib.Numerals.{add-one}
-use lib.ListN.{length, set, length-append}
+use lib.ListN.{length, set, length-set, length-append}
 use lib.Seq.{sets, sets-eq, length-sets, set-comm}
-use Rattle.lines.specs.Text.{decimal, over, Put}
-use Rattle.lines.proofs.Figures.{decimal-more, longer, figures-one}
+use borrow.Author.Tests.{lt-ltb, le-ltb}
+use Rattle.text.specs.Text.{decimal, numberIn, over, Put}
+use Rattle.text.proofs.Figures.{decimal-more, longer, figures-one, figures-length}
 
 pub sets-append : (l : List ℕ) (i : ℕ) (xs ys : List ℕ) → sets l i (xs ++ ys) ≡ sets (sets l i xs) (i + length xs) ys
 sets-append l i [] ys = rw add-zero
@@ -64,3 +65,18 @@ put-letters o a x y {o′} {xs} {b} p =
 -- putting keeps the length
 pub put-size : {o o′ xs : List ℕ} {a b : ℕ} → Put o a xs o′ b → length o′ ≡ length o
 put-size {o} {o′} {xs} {a} {b} p = ap length (p .stored) ∙ length-sets o a xs
+
+-- where 20 digits have room the number is put, and else nothing
+pub number-fits : (o : List ℕ) (a n : ℕ) → a + 20 ≤ length o → numberIn o a n ≡ decimal n
+number-fits o a n room = rw (le-ltb (length o) (a + 20) room)
+
+pub put-nothing : (o : List ℕ) (a n : ℕ) → length o < a + 20 → Put o a (numberIn o a n) o a
+put-nothing o a n full = rw (lt-ltb (length o) (a + 20) full) (record { behind = omega arith; stored = refl })
+
+-- a space, and a number behind it
+pub put-spaced : (o : List ℕ) (a n : ℕ) {o′ : List ℕ} {b : ℕ} → a + 21 ≤ length o
+    → Put (set o a 32) (a + 1) (numberIn (set o a 32) (a + 1) n) o′ b → Put o a (32 ∷ decimal n) o′ b × (b ≤ a + 21)
+put-spaced o a n {o′} {b} room p =
+    let fits = number-fits (set o a 32) (a + 1) n (omega (arith, length-set o a 32)) in
+    let q : Put (set o a 32) (a + 1) (decimal n) o′ b = put-as fits p in
+    (put-first o a 32 q, omega (arith, q .behind, figures-length 20 n))

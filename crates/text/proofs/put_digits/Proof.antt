@@ -1,15 +1,15 @@
--- `put_number` puts the digits from the last to the first. The invariant: putting the rest of the number gives the whole; the measure is the rest. Assumes nothing.
+-- `put_digits` puts the digits from the last to the first. The invariant: putting the rest of the number gives the whole; the measure is the rest. Assumes nothing.
 use Prim.Native.Nat.{ℕ, _+_, _^_, _<_}
 use mathlib.Core.Path.{_≡_, refl, _∙_, ap}
 use native.Mathlib.Omega.{arith}
 use lib.Seq.{sets}
 use lib.ListN.{length, length-set}
 use borrow.Author.Needs.{needs}
-use Rattle.lines.specs.Text.{decimal}
-use Rattle.lines.proofs.Writing.{last-digit, first-digit}
-use Rattle.lines.proofs.Figures.{figures-length, longer}
-use Rattle.lines.proofs.digits.put_number.Statement.{statement}
-use Rattle.lines.proofs.digits.put_number.Tie as tie
+use Rattle.text.specs.Text.{decimal}
+use Rattle.text.proofs.Writing.{last-digit, first-digit}
+use Rattle.text.proofs.Figures.{figures-length, longer}
+use Rattle.text.proofs.put_digits.Statement.{statement}
+use Rattle.text.proofs.put_digits.Tie as tie
 
 abbrev Inv-loop : tie.InvT-loop
 Inv-loop out₀ at n end i₀ rest₀ out i rest = (i ≡ at + length (decimal rest)) × (rest < 2 ^ 64) × (length out ≡ length out₀) × (sets out at (decimal rest) ≡ sets out₀ at (decimal n))
@@ -67,13 +67,13 @@ returns : tie.Need-returns Inv-loop μ-loop
 returns c =
     let l = c .before .loop in
     let a = c .before .before .before .before .args in
-    let w = c .before .before .width .ensures in (
-      record { behind = ap (λ (k : ℕ). a .at + k) w; stored = first-digit (l .out) (a .at) (l .rest) (omega (arith, c .loop-test .left)) ∙ l .inv .3 },
-      omega (arith, w, figures-length 20 (a .n)),
-    )
+    record {
+      behind = ap (λ (k : ℕ). a .at + k) (c .before .before .width .ensures);
+      stored = first-digit (l .out) (a .at) (l .rest) (omega (arith, c .loop-test .left)) ∙ l .inv .3;
+    }
 
-pub put-number-spec : {M : Type 1} → statement M
-put-number-spec =
+pub put-digits-spec : {M : Type 1} → statement M
+put-digits-spec =
     tie.close
     (tie.spec
     Inv-loop

@@ -1,8 +1,11 @@
-// A number in decimal.
+// A number in decimal, as the lines of both programs have it.
 ghost use Prim.Native.Nat.{_+_, _≤_, _<_};
 ghost use mathlib.Core.Path.{_≡_};
 ghost use lib.ListN.{length};
-ghost use Rattle.lines.specs.Text.{decimal, Put};
+ghost use Rattle.text.specs.Text.{decimal, numberIn, Put};
+
+// No number has more digits.
+const MOST_DIGITS: usize = 20;
 
 // How many digits a number below 10,000 has.
 fn short_width(n: u64) -> usize
@@ -41,9 +44,9 @@ fn width(n: u64) -> usize
 }
 
 // The digits from the last to the first.
-pub(crate) fn put_number(out: &mut [u8], at: usize, n: u64) -> usize
+fn put_digits(out: &mut [u8], at: usize, n: u64) -> usize
     requires { ⌜ at + 20 ≤ length (now out) ⌝ }
-    ensures { λ r. ⌜ Put (now (out .entry)) at (decimal n) (now (out .exit)) r × (r ≤ at + 20) ⌝ }
+    ensures { λ r. ⌜ Put (now (out .entry)) at (decimal n) (now (out .exit)) r ⌝ }
 {
     let end = at + width(n);
     let mut i = end;
@@ -55,4 +58,17 @@ pub(crate) fn put_number(out: &mut [u8], at: usize, n: u64) -> usize
     }
     out[at] = 48 + rest as u8;
     end
+}
+
+// The digits at the place `at`, and the place behind them; nothing, and `at` itself, where there may be no room.
+pub fn put_number(out: &mut [u8], at: usize, n: u64) -> usize
+    ensures { λ r. ⌜ Put (now (out .entry)) at (numberIn (now (out .entry)) at n) (now (out .exit)) r ⌝ }
+{
+    if out.len() < at {
+        return at;
+    }
+    if out.len() - at < MOST_DIGITS {
+        return at;
+    }
+    put_digits(out, at, n)
 }

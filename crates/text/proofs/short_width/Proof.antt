@@ -1,9 +1,9 @@
 -- `short_width` counts the digits of a number below 10,000. Assumes nothing.
 use mathlib.Core.Path.{sym}
 use native.Mathlib.Omega.{arith}
-use Rattle.lines.proofs.Figures.{one-digit, two-digits, three-digits, four-digits}
-use Rattle.lines.proofs.digits.short_width.Statement.{statement}
-use Rattle.lines.proofs.digits.short_width.Tie as tie
+use Rattle.text.proofs.Figures.{one-digit, two-digits, three-digits, four-digits}
+use Rattle.text.proofs.short_width.Statement.{statement}
+use Rattle.text.proofs.short_width.Tie as tie
 
 returns : tie.Need-returns
 returns c = sym (one-digit (c .before .before .args .n) (omega arith))

@@ -1,0 +1,50 @@
+-- The pieces that the lines of both programs are made of: numbers in decimal, fields, and bytes put at a place. Assumes nothing.
+use Prim.Native.Nat.{ℕ, zero, suc, _+_, _-_, _*_, _/_, _%_}
+use mathlib.Core.Bool.{cond}
+use mathlib.Core.List.{List, [], _∷_, _++_}
+use mathlib.Core.Path.{_≡_}
+use lib.Dec.{ltb}
+use lib.ListN.{length, drop}
+use lib.Seq.{sets}
+
+-- the decimal digits of n, the most significant first, at most k of them
+unfoldable pub figures : ℕ → ℕ → List ℕ
+figures zero n = []
+figures (suc k) n = cond (ltb n 10) ((48 + n) ∷ []) (figures k (n / 10) ++ ((48 + n % 10) ∷ []))
+
+-- a number below 2 ^ 64 has at most 20
+abbrev pub decimal : ℕ → List ℕ
+decimal n = figures 20 n
+
+-- the number that the digits behind n make of it
+abbrev pub numberFrom : ℕ → List ℕ → ℕ
+numberFrom n [] = n
+numberFrom n (b ∷ bs) = numberFrom (n * 10 + (b - 48)) bs
+
+abbrev pub number : List ℕ → ℕ
+number digits = numberFrom 0 digits
+
+-- "ok", "no"
+abbrev pub ok : List ℕ
+ok = 111 ∷ 107 ∷ []
+
+abbrev pub no : List ℕ
+no = 110 ∷ 111 ∷ []
+
+-- each field behind a space, then a newline
+abbrev pub fields : List (List ℕ) → List ℕ
+fields [] = 10 ∷ []
+fields (f ∷ fs) = (32 ∷ f) ++ fields fs
+
+-- a text at the start, and the rest as it was
+abbrev pub over : List ℕ → List ℕ → List ℕ
+over text before = text ++ drop (length text) before
+
+-- `after` is `before` with xs at the place `at`, and `next` is the place behind them
+pub record Put (before : List ℕ) (at : ℕ) (xs after : List ℕ) (next : ℕ) : Type 0 where
+  pub behind : next ≡ at + length xs
+  pub stored : after ≡ sets before at xs
+
+-- the digits of n, where 20 of them would have room at the place `at`; else nothing
+abbrev pub numberIn : List ℕ → ℕ → ℕ → List ℕ
+numberIn out at n = cond (ltb (length out) (at + 20)) [] (decimal n)
