@@ -1,123 +1,132 @@
-// The generator of the program `pace`, and the sum over the replies.
-pub enum Change {
-    Admit(u32, u32, u32, u8),
-    Wake(u32),
-    Block(u32),
-    Remove(u32),
-    Tick,
+//! The calls of the program `pace` (crates/pace/src/main.rt), and its sum over the replies.
+
+use crate::call::{Change, Description, Reply};
+
+/// What is asked: how many VCPUs, mixed (0) or busy, how many calls.
+#[derive(Clone, Copy)]
+pub struct Plan {
+    pub vcpus: u64,
+    pub mix: u64,
+    pub calls: u64,
 }
-pub enum Reply {
-    Done {
-        time: u64,
-        run: Option<u32>,
-        usable: u32,
-        timer: Option<u64>,
-    },
-    No(u8, u64),
+
+/// What the generator remembers: the time of the last accepted call, the timer, a sum over the
+/// replies, and how many were refused.
+pub struct Seen {
+    t: u64,
+    timer: u64,
+    pub sum: u64,
+    pub refused: u64,
 }
 
 fn id_of(k: u64) -> u32 {
     ((k + 1) * 791900 % 16777216) as u32
 }
-fn terms(k: u64, d: u64) -> Change {
-    Change::Admit(
-        id_of(k),
-        (50 + d % 1000) as u32,
-        (1 + d % 20) as u32,
-        (d % 7) as u8,
-    )
+
+fn terms(k: u64, d: u64) -> Description {
+    Description {
+        id: id_of(k),
+        period: (50 + d % 1000) as u32,
+        capacity: (1 + d % 20) as u32,
+        priority: (d % 7) as u8,
+    }
 }
+
+fn bad_terms(k: u64, d: u64) -> Description {
+    Description {
+        capacity: 0,
+        ..terms(k, d)
+    }
+}
+
 fn busy(n: u64, d: u64, t: u64, timer: u64) -> (u64, Change) {
-    let sel = d % 32;
     let now = (t + d / 32 % 16).min(timer);
+    let who = id_of(d / 512 % n);
+    let change = match d % 32 {
+        0..=19 => Change::Tick,
+        20..=25 => Change::Wake(who),
+        26..=30 => Change::Block(who),
+        _ => Change::Wake(id_of(n + n)),
+    };
+    (now, change)
+}
+
+/// A call that some row refuses; the late one is accepted where the timer is later still.
+fn wrong(sel: u64, n: u64, d: u64, t: u64, now: u64) -> (u64, Change) {
     let who = d / 512 % n;
-    if sel < 20 {
-        return (now, Change::Tick);
+    match sel {
+        28 => (t + 21, Change::Wake(id_of(who))),
+        29 => (t.saturating_sub(1), Change::Tick),
+        30 => (1000000000001, Change::Tick),
+        31 => (now, Change::Wake(16777216)),
+        32 => (now, Change::Admit(bad_terms(who, d))),
+        33 => (now, Change::Wake(id_of(n))),
+        34 if n >= 32 => (now, Change::Admit(terms(n, d))),
+        _ => (now, Change::Admit(terms(who, d))),
     }
-    if sel < 26 {
-        return (now, Change::Wake(id_of(who)));
-    }
-    if sel < 31 {
-        return (now, Change::Block(id_of(who)));
-    }
-    (now, Change::Wake(id_of(n + n)))
 }
-fn mixed(n: u64, d: u64, t: u64, timer: u64) -> (u64, Change) {
-    let sel = d % 32;
-    let far = t + d / 32 % 16;
-    let now = far.min(timer);
-    let who = d / 512 % (n + n);
-    if sel < 3 {
-        return (now, Change::Tick);
+
+/// Once in 32 calls a VCPU is removed, and admitted anew by the next call.
+fn mixed(k: u64, n: u64, d: u64, t: u64, timer: u64) -> (u64, Change) {
+    let now = (t + d / 32 % 16).min(timer);
+    let who = id_of(d / 512 % n);
+    let place = k / 32 % n;
+    match (k % 32, d % 36) {
+        (0, _) => (now, Change::Remove(id_of(place))),
+        (1, _) => (now, Change::Admit(terms(place, d))),
+        (_, 0..=9) => (now, Change::Tick),
+        (_, 10..=19) => (now, Change::Wake(who)),
+        (_, 20..=27) => (now, Change::Block(who)),
+        (_, sel) => wrong(sel, n, d, t, now),
     }
-    if sel < 10 {
-        return (now, Change::Wake(id_of(who)));
-    }
-    if sel < 15 {
-        return (now, Change::Block(id_of(who)));
-    }
-    if sel < 22 {
-        return (now, terms(who, d));
-    }
-    if sel < 25 {
-        return (now, Change::Remove(id_of(who)));
-    }
-    if sel < 28 {
-        return (far + 20, Change::Wake(id_of(who)));
-    }
-    if sel < 29 {
-        return (t - t.min(1), Change::Tick);
-    }
-    if sel < 30 {
-        return (now, Change::Wake(16777216));
-    }
-    if sel < 31 {
-        if let Change::Admit(i, t, _, p) = terms(who, d) {
-            return (now, Change::Admit(i, t, 0, p));
-        }
-    }
-    (1000000000001, Change::Tick)
 }
-pub fn run(mut turn: impl FnMut(u64, Change) -> Reply) {
-    let mut text = String::new();
-    std::io::stdin().read_line(&mut text).unwrap();
-    let num = |a: usize, b: usize| text[a..b].parse::<u64>().unwrap();
-    let (n, mix, calls) = (num(0, 4), num(4, 5), num(5, 15));
-    let (mut t, mut timer, mut sum, mut refused) = (0u64, u64::MAX, 0u64, 0u64);
-    let mut s = 12345u64;
-    for k in 0..calls {
-        s = (s * 1103515245 + 12345) % 2147483648;
-        let d = s / 64;
-        let (now, change) = if k < n {
-            (t, terms(k, d))
-        } else if k < n + n {
-            (t, Change::Wake(id_of(k - n)))
-        } else if mix == 0 {
-            mixed(n, d, t, timer)
-        } else {
-            busy(n, d, t, timer)
+
+fn call(k: u64, plan: Plan, s: u64, seen: &Seen) -> (u64, Change) {
+    let (n, d) = (plan.vcpus, s / 64);
+    if k < n {
+        (seen.t, Change::Admit(terms(k, d)))
+    } else if k < n + n {
+        (seen.t, Change::Wake(id_of(k - n)))
+    } else if plan.mix == 0 {
+        mixed(k, n, d, seen.t, seen.timer)
+    } else {
+        busy(n, d, seen.t, seen.timer)
+    }
+}
+
+impl Seen {
+    fn note(&mut self, reply: Reply) {
+        let more = match reply {
+            Ok(report) => {
+                self.t = report.time;
+                self.timer = report.timer.unwrap_or(u64::MAX);
+                report.time % 1000003
+                    + report.run.map_or(7, u64::from) % 1000003 * 3
+                    + u64::from(report.usable) % 1000003 * 5
+                    + self.timer % 1000003
+            }
+            Err(refusal) => {
+                self.refused += 1;
+                u64::from(refusal.number) + refusal.detail % 1000003
+            }
         };
-        match turn(now, change) {
-            Reply::Done {
-                time,
-                run,
-                usable,
-                timer: at,
-            } => {
-                t = time;
-                timer = at.unwrap_or(u64::MAX);
-                sum = (sum * 31
-                    + t % 1000003
-                    + run.map_or(7, |x| x as u64) % 1000003 * 3
-                    + usable as u64 % 1000003 * 5
-                    + timer % 1000003)
-                    % 1000000007;
-            }
-            Reply::No(number, at) => {
-                sum = (sum * 31 + number as u64 + at % 1000003) % 1000000007;
-                refused += 1;
-            }
-        }
+        self.sum = (self.sum * 31 + more) % 1000000007;
     }
-    println!("{sum} {refused}");
+}
+
+/// Makes the calls, each from what the earlier ones were answered.
+pub fn run(plan: Plan, mut turn: impl FnMut(u64, Change) -> Reply) -> Seen {
+    let mut seen = Seen {
+        t: 0,
+        timer: u64::MAX,
+        sum: 0,
+        refused: 0,
+    };
+    let mut s = 12345u64;
+    for k in 0..plan.calls {
+        s = (s * 1103515245 + 12345) % 2147483648;
+        let (now, change) = call(k, plan, s, &seen);
+        seen.note(turn(now, change));
+    }
+    seen
 }

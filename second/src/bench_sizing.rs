@@ -15,10 +15,13 @@ pub struct Plan {
     pub families: u64,
     pub changes: u64,
     pub rounds: u64,
+    /// The most seconds that a run of the plain reading should take.
+    pub plain: u64,
     pub full: bool,
 }
 
 struct Row {
+    lengths: u64,
     program: f64,
     twin: f64,
     plain: f64,
@@ -86,10 +89,10 @@ fn time_fast(plan: &Plan, list: &List) -> Result<(f64, f64), String> {
     Ok(((program - empty) / times as f64, own / times as f64))
 }
 
-/// Seconds for the plain reading at P_max 2,000. It is run with a growing P_max for some
-/// seconds; its steps at 2,000 are counted, and the least time of a step seen, which is
-/// kind to it, gives the time.
-fn time_plain(list: &List, full: bool) -> f64 {
+/// Seconds for the plain reading at P_max 2,000. It is run with a growing P_max (twice as
+/// large takes up to eight times as long); its steps at 2,000 are counted, and the least
+/// time of a step seen, which is kind to it, gives the time.
+fn time_plain(plan: &Plan, list: &List) -> f64 {
     let whole = plain_work(list, P_MAX);
     println!("  plain reading: {whole} steps at P_max 2000");
     let mut least = f64::MAX;
@@ -99,7 +102,7 @@ fn time_plain(list: &List, full: bool) -> f64 {
         let step = taken / work as f64;
         println!("    P_max {p_max:>4}: {work:>14} steps {taken:>9.3} s {:>6.3} ns a step", step * 1e9);
         least = least.min(step);
-        if p_max == P_MAX || p_max >= 80 && !full && taken * 8.0 > 6.0 {
+        if p_max == P_MAX || p_max >= 80 && !plan.full && taken * 8.0 > plan.plain as f64 {
             break;
         }
         p_max = (p_max * 2).min(P_MAX);
@@ -113,11 +116,12 @@ fn time_plain(list: &List, full: bool) -> f64 {
 }
 
 fn time_list(plan: &Plan, name: &str, list: &List) -> Result<Row, String> {
-    println!("{name}: {} lengths looked at by the fast search", list.lengths());
+    let lengths = list.lengths();
+    println!("{name}: {lengths} lengths looked at by the fast search");
     println!("  {}", list.query(P_MAX));
     let (program, twin) = time_fast(plan, list)?;
-    let plain = time_plain(list, plan.full);
-    Ok(Row { program, twin, plain })
+    let plain = time_plain(plan, list);
+    Ok(Row { lengths, program, twin, plain })
 }
 
 /// Lists that are hard for the plain reading, whatever they cost the fast search.
@@ -139,18 +143,22 @@ fn small_stack(program: &str, list: &List) -> Result<String, String> {
 
 fn table(rows: &[(String, Row)]) {
     println!();
-    println!("one best interface, 16 tasks, P_max 2000; times in ms");
-    println!("list               proved      twin         plain  plain/proved  proved/twin");
+    println!("One best interface, 16 tasks, P_max 2000");
+    println!();
+    println!("| List | Lengths looked at | Proved | Twin | Plain | Plain/proved | Proved/twin |");
+    println!("|---|---|---|---|---|---|---|");
     for (name, row) in rows {
         println!(
-            "{name:<14} {:>10.4} {:>9.4} {:>13.1} {:>13.0} {:>12.2}",
+            "| {name} | {} | {:.3} ms | {:.3} ms | {:.1} s | {:.0} | {:.2} |",
+            row.lengths,
             row.program * 1e3,
             row.twin * 1e3,
-            row.plain * 1e3,
+            row.plain,
             row.plain / row.program,
             row.program / row.twin
         );
     }
+    println!();
 }
 
 pub fn run(plan: &Plan) -> Result<String, String> {

@@ -8,8 +8,6 @@ mod compare_card;
 mod compare_sizing;
 mod endings;
 mod generate;
-mod inplace;
-mod inplace_program;
 mod lines;
 mod options;
 mod outside;
@@ -36,14 +34,13 @@ from standard input to standard output:
   sizing      queries to answers, by the plain reading
   twin        best queries alone, by the fast algorithm
   card        event records to lines
-  inplace     the same, in place
   words       records in words to bytes
   unwords     bytes to records in words
 with the program to try:
   compare-sizing PROGRAM [--seed S] [--count N] [--list 1]
   compare-card PROGRAM [--seed S] [--records N] [--list 1]
   outside PROGRAM [--seed S] [--runs N]
-  bench-sizing PROGRAM [--seed S] [--families N] [--changes N] [--rounds N] [--full 1]
+  bench-sizing PROGRAM [--seed S] [--families N] [--changes N] [--rounds N] [--plain S] [--full 1]
 a picture of records in words, from standard input to standard output:
   picture PROGRAM
 one run of a comparison, as records:
@@ -81,7 +78,6 @@ fn filter(command: &str) -> io::Result<Result<(), String>> {
         "sizing" => sizing::run(input, output)?,
         "twin" => twin::run(input, output)?,
         "card" => lines::run(input, output)?,
-        "inplace" => inplace_program::run(input, output)?,
         "words" => match words::to_records(&io::read_to_string(input)?) {
             Ok(bytes) => output.write_all(&bytes)?,
             Err(error) => return Ok(Err(error)),
@@ -118,6 +114,7 @@ fn try_program(command: &str, options: &Options) -> Result<String, String> {
             families: options.number("families", 500),
             changes: options.number("changes", 200),
             rounds: options.number("rounds", 15),
+            plain: options.number("plain", 6),
             full: options.number("full", 0) != 0,
         }),
     }

@@ -5,8 +5,8 @@ pub struct Options {
     numbers: Vec<(String, u64)>,
 }
 
-const NAMES: [&str; 10] =
-    ["seed", "count", "records", "runs", "run", "list", "families", "changes", "rounds", "full"];
+const NAMES: [&str; 11] =
+    ["seed", "count", "records", "runs", "run", "list", "families", "changes", "rounds", "plain", "full"];
 
 impl Options {
     pub fn read(words: &[String]) -> Result<Options, String> {

@@ -101,83 +101,109 @@ fn busy(n: u64, d: u64, t: u64, timer: u64) -> Event
     }
 }
 
-fn wrong(sel: u64, far: u64, t: u64, now: u64, who: u64, d: u64) -> Event
-    requires { ⌜ far < 2199023255552 ⌝ }
+// A change that row 4, 5, 7, 8 or 6 refuses. Only a card of 32 is full.
+fn wrong_change(sel: u64, n: u64, who: u64, d: u64) -> Change
+    requires { ⌜ n ≤ 9999 ⌝ }
 {
-    let id = id_of(who);
-    if sel < 28 {
+    if sel < 32 {
+        let wide = Tunnel::new(16777216);
+        return Change::Wake(wide);
+    }
+    if sel < 33 {
+        let bad = bad_terms(who, d);
+        return Change::Admit(bad);
+    }
+    if sel < 34 {
+        let nobody = id_of(n);
+        return Change::Wake(nobody);
+    }
+    if sel < 35 && 32 <= n {
+        let new = terms(n, d);
+        return Change::Admit(new);
+    }
+    let again = terms(who, d);
+    Change::Admit(again)
+}
+
+// A call that some row refuses; the late one is accepted where the timer is later still.
+fn wrong(sel: u64, n: u64, d: u64, t: u64, now: u64) -> Event
+    requires { ⌜ (1 ≤ n) × (n ≤ 9999) ⌝ }
+    requires { ⌜ t < 1099511627776 ⌝ }
+{
+    let who = d / 512 % n;
+    if sel < 29 {
+        let id = id_of(who);
         return Event {
-            now: far + 20,
+            now: t + 21,
             change: Change::Wake(id),
         };
     }
-    if sel < 29 {
+    if sel < 30 {
         return Event {
             now: earlier(t),
             change: Change::Tick,
         };
     }
-    if sel < 30 {
-        let wide = Tunnel::new(16777216);
-        return Event {
-            now,
-            change: Change::Wake(wide),
-        };
-    }
     if sel < 31 {
-        let bad = bad_terms(who, d);
         return Event {
-            now,
-            change: Change::Admit(bad),
+            now: 1000000000001,
+            change: Change::Tick,
         };
     }
-    Event {
-        now: 1000000000001,
-        change: Change::Tick,
-    }
+    let change = wrong_change(sel, n, who, d);
+    Event { now, change }
 }
 
-fn mixed(n: u64, d: u64, t: u64, timer: u64) -> Event
+// A tick, a wake, a block, or a call that is refused.
+fn any(n: u64, d: u64, t: u64, now: u64) -> Event
     requires { ⌜ (1 ≤ n) × (n ≤ 9999) ⌝ }
     requires { ⌜ t < 1099511627776 ⌝ }
 {
-    let sel = d % 32;
-    let far = t + d / 32 % 16;
-    let now = clamped(far, timer);
-    let who = d / 512 % (n + n);
-    let id = id_of(who);
-    if sel < 3 {
+    let sel = d % 36;
+    let id = id_of(d / 512 % n);
+    if sel < 10 {
         return Event {
             now,
             change: Change::Tick,
         };
     }
-    if sel < 10 {
+    if sel < 20 {
         return Event {
             now,
             change: Change::Wake(id),
         };
     }
-    if sel < 15 {
+    if sel < 28 {
         return Event {
             now,
             change: Change::Block(id),
         };
     }
-    if sel < 22 {
-        let new = terms(who, d);
-        return Event {
-            now,
-            change: Change::Admit(new),
-        };
-    }
-    if sel < 25 {
+    wrong(sel, n, d, t, now)
+}
+
+// Once in 32 calls a VCPU is removed, and admitted anew by the next call.
+fn mixed(k: u64, n: u64, d: u64, t: u64, timer: u64) -> Event
+    requires { ⌜ (1 ≤ n) × (n ≤ 9999) ⌝ }
+    requires { ⌜ t < 1099511627776 ⌝ }
+{
+    let now = clamped(t + d / 32 % 16, timer);
+    let place = k / 32 % n;
+    if k % 32 == 0 {
+        let id = id_of(place);
         return Event {
             now,
             change: Change::Remove(id),
         };
     }
-    wrong(sel, far, t, now, who, d)
+    if k % 32 == 1 {
+        let new = terms(place, d);
+        return Event {
+            now,
+            change: Change::Admit(new),
+        };
+    }
+    any(n, d, t, now)
 }
 
 fn call(k: u64, n: u64, mix: u64, s: u64, t: u64, timer: u64) -> Event
@@ -200,7 +226,7 @@ fn call(k: u64, n: u64, mix: u64, s: u64, t: u64, timer: u64) -> Event
         };
     }
     if mix == 0 {
-        return mixed(n, d, t, timer);
+        return mixed(k, n, d, t, timer);
     }
     busy(n, d, t, timer)
 }

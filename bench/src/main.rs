@@ -1,0 +1,79 @@
+//! The in-place schedulers that the proved programs are timed against.
+
+mod call;
+mod front;
+mod generator;
+mod lines;
+mod plain;
+mod records;
+mod twin;
+
+use call::Scheduler;
+use generator::Plan;
+use std::fs::File;
+use std::io::{self, Write};
+use std::os::fd::AsFd;
+
+const USAGE: &str = "usage: bench COMMAND
+  calls plain|twin      the program `pace` in place: its fifteen digits from standard input
+  card plain|twin       the program `card` in place: event records to lines
+  records N MIX CALLS   the calls of `calls` as event records (MIX: 0 mixed, 1 busy)";
+
+/// The fifteen digits: four for the VCPUs, one for the mix, ten for the calls.
+fn asked() -> Option<Plan> {
+    let text = io::read_to_string(io::stdin()).ok()?;
+    let number = |from: usize, to: usize| text.get(from..to)?.parse().ok();
+    Some(Plan {
+        vcpus: number(0, 4)?,
+        mix: number(4, 5)?,
+        calls: number(5, 15)?,
+    })
+}
+
+fn calls(mut core: impl Scheduler) -> io::Result<()> {
+    let plan = asked().ok_or(io::Error::other("fifteen digits are wanted"))?;
+    let seen = generator::run(plan, |now, change| core.turn(now, change));
+    println!("{} {}", seen.sum, seen.refused);
+    Ok(())
+}
+
+/// Standard input and output without a buffer of the library's own.
+fn card(core: impl Scheduler) -> io::Result<()> {
+    let from = File::from(io::stdin().as_fd().try_clone_to_owned()?);
+    let to = File::from(io::stdout().as_fd().try_clone_to_owned()?);
+    front::run(core, from, to)
+}
+
+fn records(words: &[&str]) -> io::Result<()> {
+    let numbers: Vec<u64> = words.iter().filter_map(|word| word.parse().ok()).collect();
+    let &[vcpus, mix, calls] = &numbers[..] else {
+        return Err(io::Error::other(USAGE));
+    };
+    let mut core = plain::Core::empty();
+    let mut bytes = Vec::new();
+    generator::run(Plan { vcpus, mix, calls }, |now, change| {
+        records::write(now, change, &mut bytes);
+        core.turn(now, change)
+    });
+    io::stdout().write_all(&bytes)
+}
+
+fn run(words: &[&str]) -> io::Result<()> {
+    match words {
+        ["calls", "plain"] => calls(plain::Core::empty()),
+        ["calls", "twin"] => calls(twin::Core::empty()),
+        ["card", "plain"] => card(plain::Core::empty()),
+        ["card", "twin"] => card(twin::Core::empty()),
+        ["records", numbers @ ..] => records(numbers),
+        _ => Err(io::Error::other(USAGE)),
+    }
+}
+
+fn main() {
+    let words: Vec<String> = std::env::args().skip(1).collect();
+    let words: Vec<&str> = words.iter().map(String::as_str).collect();
+    if let Err(error) = run(&words) {
+        eprintln!("{error}");
+        std::process::exit(1);
+    }
+}

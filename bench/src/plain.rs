@@ -1,0 +1,213 @@
+//! The rules in place, as they are read: a table in no order, each VCPU with a queue of its own.
+
+use crate::call::{refuse, Change, Description, Refusal, Reply, Report, Scheduler};
+use crate::call::{LARGEST_IDENTIFIER, LARGEST_PERIOD, LARGEST_TIME, MOST_PENDING, MOST_VCPUS};
+
+#[derive(Clone, Copy)]
+struct Vcpu {
+    id: u32,
+    period: u32,
+    usable: u32,
+    priority: u8,
+    runnable: bool,
+    count: u8,
+    ended: u64,
+    due: [u64; MOST_PENDING],
+    amount: [u32; MOST_PENDING],
+}
+
+const FREE: Vcpu = Vcpu {
+    id: 0,
+    period: 0,
+    usable: 0,
+    priority: 0,
+    runnable: false,
+    count: 0,
+    ended: 0,
+    due: [0; MOST_PENDING],
+    amount: [0; MOST_PENDING],
+};
+
+impl Vcpu {
+    fn urgency(&self) -> u32 {
+        u32::from(self.priority) << 24 | self.id
+    }
+
+    fn charge(&mut self, last: u64, now: u64) {
+        let used = (now - last) as u32;
+        if used == 0 {
+            return;
+        }
+        self.usable -= used;
+        let count = usize::from(self.count);
+        let again = last + u64::from(self.period);
+        if count > 0 && self.ended == last {
+            self.amount[count - 1] += used;
+        } else if count == MOST_PENDING {
+            self.amount[count - 1] += used;
+            self.due[count - 1] = again;
+        } else {
+            self.due[count] = again;
+            self.amount[count] = used;
+            self.count += 1;
+        }
+        self.ended = now;
+    }
+
+    fn give_back(&mut self, now: u64) {
+        while self.count > 0 && self.due[0] <= now {
+            self.usable += self.amount[0];
+            self.due.copy_within(1.., 0);
+            self.amount.copy_within(1.., 0);
+            self.count -= 1;
+        }
+    }
+}
+
+pub struct Core {
+    last: u64,
+    timer: Option<u64>,
+    running: Option<usize>,
+    count: usize,
+    table: [Vcpu; MOST_VCPUS],
+}
+
+impl Core {
+    pub fn empty() -> Core {
+        Core {
+            last: 0,
+            timer: None,
+            running: None,
+            count: 0,
+            table: [FREE; MOST_VCPUS],
+        }
+    }
+
+    fn vcpus(&self) -> &[Vcpu] {
+        &self.table[..self.count]
+    }
+
+    fn find(&self, id: u32) -> Option<usize> {
+        self.vcpus().iter().position(|vcpu| vcpu.id == id)
+    }
+
+    /// Rows 1 to 8 of the reply numbers; the place in the table that the call speaks of.
+    fn judge(&self, now: u64, change: &Change) -> Result<usize, Refusal> {
+        if now > LARGEST_TIME {
+            return refuse(1);
+        }
+        if now < self.last {
+            return refuse(2);
+        }
+        match self.timer {
+            Some(detail) if now > detail => return Err(Refusal { number: 3, detail }),
+            _ => (),
+        }
+        match *change {
+            Change::Tick => Ok(0),
+            Change::Admit(new) => self.free_place(new),
+            Change::Wake(id) | Change::Block(id) | Change::Remove(id) => {
+                if id > LARGEST_IDENTIFIER {
+                    return refuse(4);
+                }
+                self.find(id).map_or(refuse(7), Ok)
+            }
+        }
+    }
+
+    fn free_place(&self, new: Description) -> Result<usize, Refusal> {
+        if new.id > LARGEST_IDENTIFIER {
+            return refuse(4);
+        }
+        let periods = 1..=LARGEST_PERIOD;
+        if !periods.contains(&new.period) || !(1..=new.period).contains(&new.capacity) {
+            return refuse(5);
+        }
+        if self.find(new.id).is_some() {
+            return refuse(6);
+        }
+        if self.count == MOST_VCPUS {
+            return refuse(8);
+        }
+        Ok(self.count)
+    }
+
+    fn change(&mut self, change: Change, place: usize) {
+        match change {
+            Change::Tick => (),
+            Change::Wake(_) => self.table[place].runnable = true,
+            Change::Block(_) => self.table[place].runnable = false,
+            Change::Remove(_) => {
+                self.count -= 1;
+                self.table[place] = self.table[self.count];
+            }
+            Change::Admit(new) => {
+                self.table[place] = Vcpu {
+                    id: new.id,
+                    period: new.period,
+                    usable: new.capacity,
+                    priority: new.priority,
+                    ..FREE
+                };
+                self.count += 1;
+            }
+        }
+    }
+
+    /// The most urgent one that can run.
+    fn choose(&self) -> Option<usize> {
+        let mut best: Option<usize> = None;
+        let mut urgency = u32::MAX;
+        for (place, vcpu) in self.vcpus().iter().enumerate() {
+            let first = best.is_none() || vcpu.urgency() < urgency;
+            if vcpu.runnable && vcpu.usable > 0 && first {
+                best = Some(place);
+                urgency = vcpu.urgency();
+            }
+        }
+        best
+    }
+
+    /// The timer where `chosen` runs, or nobody.
+    fn timer(&self, now: u64, chosen: Option<&Vcpu>) -> Option<u64> {
+        let mut timer = chosen.map(|vcpu| now + u64::from(vcpu.usable));
+        for vcpu in self.vcpus() {
+            if vcpu.runnable
+                && vcpu.count > 0
+                && chosen.is_none_or(|best| vcpu.urgency() < best.urgency())
+                && timer.is_none_or(|at| vcpu.due[0] < at)
+            {
+                timer = Some(vcpu.due[0]);
+            }
+        }
+        timer
+    }
+}
+
+impl Scheduler for Core {
+    fn turn(&mut self, now: u64, change: Change) -> Reply {
+        let place = self.judge(now, &change)?;
+        if let Some(running) = self.running {
+            self.table[running].charge(self.last, now);
+        }
+        for vcpu in &mut self.table[..self.count] {
+            vcpu.give_back(now);
+        }
+        self.change(change, place);
+        self.running = self.choose();
+        let chosen = self.running.map(|place| &self.table[place]);
+        let timer = self.timer(now, chosen);
+        let (run, usable) = (
+            chosen.map(|vcpu| vcpu.id),
+            chosen.map_or(0, |vcpu| vcpu.usable),
+        );
+        self.last = now;
+        self.timer = timer;
+        Ok(Report {
+            time: now,
+            run,
+            usable,
+            timer,
+        })
+    }
+}

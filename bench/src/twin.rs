@@ -1,0 +1,218 @@
+//! The algorithm of the crate `turns`, in place: a table sorted by urgency, identifiers beside it,
+//! a time above all for none.
+
+use crate::call::{refuse, Change, Description, Refusal, Reply, Report, Scheduler};
+use crate::call::{LARGEST_IDENTIFIER, LARGEST_PERIOD, LARGEST_TIME, MOST_PENDING, MOST_VCPUS};
+
+const NEVER: u64 = u64::MAX;
+const NOBODY: u32 = u32::MAX;
+
+// `capacity` is never read: it keeps the record at its size in `turns`.
+#[allow(dead_code)]
+#[derive(Clone, Copy)]
+struct Vcpu {
+    due: [u64; MOST_PENDING],
+    ended: u64,
+    amount: [u32; MOST_PENDING],
+    period: u32,
+    capacity: u32,
+    usable: u32,
+    priority: u8,
+    runnable: bool,
+    count: u8,
+}
+
+const VACANT: Vcpu = Vcpu {
+    due: [NEVER; MOST_PENDING],
+    ended: 0,
+    amount: [0; MOST_PENDING],
+    period: 0,
+    capacity: 0,
+    usable: 0,
+    priority: 0,
+    runnable: false,
+    count: 0,
+};
+
+impl Vcpu {
+    fn charge(&mut self, last: u64, now: u64) {
+        let used = (now - last) as u32;
+        let c = usize::from(self.count);
+        self.usable -= used;
+        if c > 0 && self.ended == last {
+            self.amount[c - 1] += used;
+        } else if c == MOST_PENDING {
+            self.amount[c - 1] += used;
+            self.due[c - 1] = last + u64::from(self.period);
+        } else {
+            self.due[c] = last + u64::from(self.period);
+            self.amount[c] = used;
+            self.count += 1;
+        }
+        self.ended = now;
+    }
+
+    fn give_back(&mut self, now: u64) {
+        while self.due[0] <= now {
+            self.usable += self.amount[0];
+            self.due.copy_within(1.., 0);
+            self.due[MOST_PENDING - 1] = NEVER;
+            self.amount.copy_within(1.., 0);
+            self.amount[MOST_PENDING - 1] = 0;
+            self.count -= 1;
+        }
+    }
+}
+
+pub struct Core {
+    places: [Vcpu; MOST_VCPUS],
+    last: u64,
+    ids: [u32; MOST_VCPUS],
+    timer: u64,
+    running: usize,
+    n: usize,
+}
+
+impl Core {
+    pub fn empty() -> Core {
+        Core {
+            places: [VACANT; MOST_VCPUS],
+            last: 0,
+            ids: [NOBODY; MOST_VCPUS],
+            timer: NEVER,
+            running: MOST_VCPUS,
+            n: 0,
+        }
+    }
+
+    fn find(&self, id: u32) -> usize {
+        self.ids.iter().position(|x| *x == id).unwrap_or(MOST_VCPUS)
+    }
+
+    fn judge(&self, now: u64, change: &Change) -> Result<usize, Refusal> {
+        if now > LARGEST_TIME {
+            return refuse(1);
+        }
+        if now < self.last {
+            return refuse(2);
+        }
+        if now > self.timer {
+            return Err(Refusal {
+                number: 3,
+                detail: self.timer,
+            });
+        }
+        match *change {
+            Change::Tick => Ok(0),
+            Change::Admit(new) => self.judge_admit(new),
+            Change::Wake(id) | Change::Block(id) | Change::Remove(id) => self.judge_named(id),
+        }
+    }
+
+    fn judge_named(&self, id: u32) -> Result<usize, Refusal> {
+        if id > LARGEST_IDENTIFIER {
+            return refuse(4);
+        }
+        let at = self.find(id);
+        if at == MOST_VCPUS {
+            return refuse(7);
+        }
+        Ok(at)
+    }
+
+    fn judge_admit(&self, new: Description) -> Result<usize, Refusal> {
+        if new.id > LARGEST_IDENTIFIER {
+            return refuse(4);
+        }
+        let period_fits = new.period >= 1 && new.period <= LARGEST_PERIOD;
+        if !period_fits || new.capacity < 1 || new.capacity > new.period {
+            return refuse(5);
+        }
+        if self.find(new.id) < MOST_VCPUS {
+            return refuse(6);
+        }
+        if self.n == MOST_VCPUS {
+            return refuse(8);
+        }
+        Ok(0)
+    }
+
+    fn admit(&mut self, new: Description) {
+        let mine = (new.priority, new.id);
+        let k = (0..self.n)
+            .position(|k| mine < (self.places[k].priority, self.ids[k]))
+            .unwrap_or(self.n);
+        self.places.copy_within(k..MOST_VCPUS - 1, k + 1);
+        self.ids.copy_within(k..MOST_VCPUS - 1, k + 1);
+        self.places[k] = Vcpu {
+            period: new.period,
+            capacity: new.capacity,
+            usable: new.capacity,
+            priority: new.priority,
+            ..VACANT
+        };
+        self.ids[k] = new.id;
+        self.n += 1;
+    }
+
+    fn remove(&mut self, at: usize) {
+        self.places.copy_within(at + 1.., at);
+        self.ids.copy_within(at + 1.., at);
+        self.places[MOST_VCPUS - 1] = VACANT;
+        self.ids[MOST_VCPUS - 1] = NOBODY;
+        self.n -= 1;
+    }
+
+    /// The first in the table that can run, and the earliest return of those before it.
+    fn choose(&self) -> (usize, u64) {
+        let mut soon = NEVER;
+        for (j, v) in self.places[..self.n].iter().enumerate() {
+            if v.runnable {
+                if v.usable > 0 {
+                    return (j, soon);
+                }
+                soon = soon.min(v.due[0]);
+            }
+        }
+        (MOST_VCPUS, soon)
+    }
+
+    fn report(&mut self, now: u64) -> Report {
+        let (chosen, soon) = self.choose();
+        let runs = chosen < MOST_VCPUS;
+        let usable = if runs { self.places[chosen].usable } else { 0 };
+        self.last = now;
+        self.running = chosen;
+        self.timer = if runs {
+            soon.min(now + u64::from(usable))
+        } else {
+            soon
+        };
+        Report {
+            time: now,
+            run: runs.then(|| self.ids[chosen]),
+            usable,
+            timer: (self.timer != NEVER).then_some(self.timer),
+        }
+    }
+}
+
+impl Scheduler for Core {
+    fn turn(&mut self, now: u64, change: Change) -> Reply {
+        let at = self.judge(now, &change)?;
+        if self.running < self.n && now != self.last {
+            self.places[self.running].charge(self.last, now);
+        }
+        for v in &mut self.places[..self.n] {
+            v.give_back(now);
+        }
+        match change {
+            Change::Tick => (),
+            Change::Admit(new) => self.admit(new),
+            Change::Wake(_) => self.places[at].runnable = true,
+            Change::Block(_) => self.places[at].runnable = false,
+            Change::Remove(_) => self.remove(at),
+        }
+        Ok(self.report(now))
+    }
+}
