@@ -53,7 +53,9 @@ fn main() {
     let words: Vec<String> = std::env::args().skip(1).collect();
     let command = words.first().map_or("", String::as_str);
     let behind = words.get(1..).unwrap_or(&[]);
-    if let Err(error) = Options::read(behind).and_then(|options| run(command, &options)) {
+    let named = |line: &&str| line.split_whitespace().next() == Some(command);
+    let usage = USAGE.lines().find(named).unwrap_or("");
+    if let Err(error) = Options::read(behind, usage).and_then(|options| run(command, &options)) {
         eprintln!("{error}");
         std::process::exit(1);
     }
