@@ -6,22 +6,22 @@ use mathlib.Core.List.{List}
 use mathlib.Core.Option.{Option, none, some}
 use Prim.Native.Nat.{ℕ, _+_, _-_, _≤_, _<_}
 use native.Mathlib.Omega.{arith}
-use lib.Dec.{leb, ltb}
+use lib.Dec.{leb}
 use lib.ListN.{length}
-use borrow.Author.Tests.{leb-true, leb-false, ltb-false, not-false}
-use Rattle.rules.specs.Limits.{largestTime, largestTunnel, largestPeriod, mostVcpus, inRange}
+use borrow.Author.Tests.{leb-true, leb-false, not-false}
+use Rattle.rules.specs.Limits.{largestTime, largestPeriod, mostVcpus, inRange}
 use Rattle.rules.specs.Lists.{count, All, Among}
 use Rattle.rules.specs.Vcpu.{Description, Vcpu, named}
 use Rattle.rules.specs.Card.{Card, onCard}
 use Rattle.rules.specs.Change.{Change}
 use Rattle.rules.specs.Choose.{choose, runs}
 use Rattle.rules.specs.Timer.{timer}
-use Rattle.rules.specs.Refuse.{Refusal, row, rowLate, admitRows, callRows, refusal}
+use Rattle.rules.specs.Refuse.{Refusal, row, aboveLargest, belowLast, later, rowLate, above24Bits, admitRows, callRows, refusal}
 use Rattle.rules.specs.History.{holds}
 use Rattle.rules.proofs.Tests.{tests, clash, no-some, and-true}
 use Rattle.rules.proofs.Named.{named-itself}
 use Rattle.rules.proofs.Lists.{among-all, only-one}
-use Rattle.rules.specs.Meaning.{InRange}
+use Rattle.rules.specs.Meaning.{InRange, OnTheCard}
 use Rattle.rules.proofs.Choice.{chosen}
 use Rattle.rules.proofs.Timer.{while-running}
 
@@ -38,8 +38,8 @@ pub record Passed (c : Card) (now : ℕ) (asked : Change) : Type 0 where
 pub passed : (c : Card) (now : ℕ) (asked : Change) → refusal c now asked ≡ none → Passed c now asked
 unfolding refusal
 passed c now asked e =
-    let a = row-passed (ltb largestTime now) 1 0 (row (ltb now (c .last)) 2 0 (rowLate (c .timer) now (callRows (c .vcpus) asked))) e in
-    let b = row-passed (ltb now (c .last)) 2 0 (rowLate (c .timer) now (callRows (c .vcpus) asked)) (a .1) in
+    let a = row-passed (aboveLargest now) 1 0 _ e in
+    let b = row-passed (belowLast (c .last) now) 2 0 _ (a .1) in
     let l = late (c .timer) (callRows (c .vcpus) asked) (b .1) in
     record {
       not-above = omega (arith, tests, a .0);
@@ -51,8 +51,17 @@ passed c now asked e =
     late : (o : Option ℕ) (below : Option Refusal) → rowLate o now below ≡ none → ((t : ℕ) → o ≡ some t → now ≤ t) × (below ≡ none)
     late none below f = (λ t g. no-some g, f)
     late (some u) below f =
-        let p = row-passed (ltb u now) 3 u below f in
+        let p = row-passed (later u now) 3 u below f in
         (λ t g. let q : u ≡ t = cc in omega (arith, tests), p .1)
+
+-- "period 1 to 1,000,000, capacity 1 to the period"
+pub range-says : (period capacity : ℕ) → inRange period capacity ≡ true
+    → (1 ≤ period) × (period ≤ largestPeriod) × (1 ≤ capacity) × (capacity ≤ period)
+range-says period capacity e =
+    let h = and-true (leb 1 period && leb period largestPeriod && leb 1 capacity) (leb capacity period) e in
+    let i = and-true (leb 1 period && leb period largestPeriod) (leb 1 capacity) (h .0) in
+    let j = and-true (leb 1 period) (leb period largestPeriod) (i .0) in
+    (leb-true 1 period (j .0), leb-true period largestPeriod (j .1), leb-true 1 capacity (i .1), leb-true capacity period (h .1))
 
 pub record Admits (vs : List Vcpu) (d : Description) : Type 0 where
   pub range : InRange d
@@ -61,21 +70,18 @@ pub record Admits (vs : List Vcpu) (d : Description) : Type 0 where
 
 pub admits : (vs : List Vcpu) (d : Description) → admitRows vs d ≡ none → Admits vs d
 admits vs d e =
-    let a = row-passed (ltb largestTunnel (d .tunnel)) 4 0 _ e in
+    let a = row-passed (above24Bits (d .tunnel)) 4 0 _ e in
     let b = row-passed (not (inRange (d .period) (d .capacity))) 5 0 _ (a .1) in
     let f = row-passed (onCard (d .tunnel) vs) 6 0 _ (b .1) in
     let g = row-passed (leb mostVcpus (length vs)) 8 0 _ (f .1) in
-    let r : inRange (d .period) (d .capacity) ≡ true = not-false (inRange (d .period) (d .capacity)) (b .0) in
-    let h = and-true (leb 1 (d .period) && leb (d .period) largestPeriod && leb 1 (d .capacity)) (leb (d .capacity) (d .period)) r in
-    let i = and-true (leb 1 (d .period) && leb (d .period) largestPeriod) (leb 1 (d .capacity)) (h .0) in
-    let j = and-true (leb 1 (d .period)) (leb (d .period) largestPeriod) (i .0) in
+    let r = range-says (d .period) (d .capacity) (not-false (inRange (d .period) (d .capacity)) (b .0)) in
     record {
       range = record {
-        tunnel-high = ltb-false largestTunnel (d .tunnel) (a .0);
-        period-low = leb-true 1 (d .period) (j .0);
-        period-high = leb-true (d .period) largestPeriod (j .1);
-        capacity-low = leb-true 1 (d .capacity) (i .1);
-        capacity-high = leb-true (d .capacity) (d .period) (h .1);
+        tunnel-high = omega (arith, tests, a .0);
+        period-low = r .0;
+        period-high = r .1;
+        capacity-low = r .2;
+        capacity-high = r .3;
       };
       not-there = f .0;
       room = leb-false mostVcpus (length vs) (g .0);
@@ -102,9 +108,9 @@ in-time c now s once late = among-all _ (c .vcpus) (λ v m h. go v m (choose (c 
         subst (λ (x : Vcpu). now ≤ c .last + x .usable) (sym q) l
 
 -- nobody runs who is not on the card
-pub runs-on-card : (c : Card) → Settled c → (t : ℕ) → c .running ≡ some t → (v : Vcpu) × (Among v (c .vcpus)) × (v .terms .tunnel ≡ t)
+pub runs-on-card : (c : Card) → Settled c → (t : ℕ) → c .running ≡ some t → OnTheCard (c .vcpus) t
 runs-on-card c s t e = go (choose (c .vcpus)) refl (sym (s .runs-chosen) ∙ e)
   where
-    go : (o : Option Vcpu) → choose (c .vcpus) ≡ o → runs o ≡ some t → (v : Vcpu) × (Among v (c .vcpus)) × (v .terms .tunnel ≡ t)
+    go : (o : Option Vcpu) → choose (c .vcpus) ≡ o → runs o ≡ some t → OnTheCard (c .vcpus) t
     go none f g = no-some g
     go (some w) f g = (w, chosen (c .vcpus) w f .on-card, (cc))

@@ -1,13 +1,13 @@
 -- Steps 1 and 2 of an accepted call: d ticks pass, the one that held the core is charged, and what is due returns.
 -- Assumes that the ticks held are no more than the usable ones, and that who runs is on the card.
 use mathlib.Core.Path.{_≡_, refl, ap, sym, _∙_, subst}
-use mathlib.Core.Bool.{Bool, true, false, cond, _&&_, _||_}
+use mathlib.Core.Bool.{Bool, true, false, cond, not, _&&_, _||_}
 use mathlib.Core.List.{List, [], _∷_, map}
 use mathlib.Core.Logic.{_⊎_, ⊎-elim}
 use mathlib.Core.Option.{Option, none, some}
 use Prim.Native.Nat.{ℕ, suc, _+_, _-_, _≤_}
 use native.Mathlib.Omega.{arith}
-use lib.Dec.{ltb, eqb}
+use lib.Dec.{eqb}
 use lib.ListN.{length, length-map}
 use borrow.Author.Tests.{eq-eqb}
 use Rattle.rules.specs.Lists.{any, count, All, Among}
@@ -18,6 +18,7 @@ use Rattle.rules.specs.Return.{bring, returned}
 use Rattle.rules.specs.Change.{Change, admit, wake, block, remove, tick}
 use Rattle.rules.specs.Refuse.{callRows}
 use Rattle.rules.specs.Turn.{afterReturn}
+use Rattle.rules.specs.Meaning.{OnTheCard}
 use Rattle.rules.specs.History.{ticks, holds, isIdle}
 use Rattle.rules.specs.Stays.{Stay, lasts, lastsAs, foldsAt, withFold, owns, held, EachTick, owners}
 use Rattle.rules.proofs.Tests.{clash, cases, and-true, or-false}
@@ -42,7 +43,7 @@ each-stepped c now = go (c .running) (c .vcpus)
     go (some t) [] = refl
     go (some t) (v ∷ vs) = ap (λ (l : List Vcpu). stepped (c .last) now (some t) v ∷ l) (go (some t) vs)
 
-terms-charged : (last now : ℕ) (v : Vcpu) → charged last now v .terms ≡ v .terms
+pub terms-charged : (last now : ℕ) (v : Vcpu) → charged last now v .terms ≡ v .terms
 unfolding charged
 terms-charged last now v = go (noTicks last now)
   where
@@ -56,6 +57,15 @@ terms-stepped last now o v = go (holds (v .terms .tunnel) o)
     go : (b : Bool) → cond b (charged last now v) v .terms ≡ v .terms
     go true = terms-charged last now v
     go false = refl
+
+pub runnable-stepped : (last now : ℕ) (o : Option ℕ) (v : Vcpu) → stepped last now o v .runnable ≡ v .runnable
+unfolding charged
+runnable-stepped last now o v = go (holds (v .terms .tunnel) o) (noTicks last now)
+  where
+    go : (b n : Bool) → cond b (cond n v (chargedSome last now v)) v .runnable ≡ v .runnable
+    go true true = refl
+    go true false = refl
+    go false n = refl
 
 -- the call's own rows may be judged before these steps or after them
 pub rows-stepped : (c : Card) (now : ℕ) (asked : Change) → callRows (afterReturn c now) asked ≡ callRows (c .vcpus) asked
@@ -121,15 +131,15 @@ module _ (c : Card) (d : ℕ) (ss : List Stay) (h : List (Option ℕ)) (l : Lawf
   -- where the call makes its queue fold, the stay says so
   fold-said : (s : Stay) (v : Vcpu) → Among v (c .vcpus) → v .terms .tunnel ≡ s .terms .tunnel → lasts (s .until) ≡ true
       → holds (s .terms .tunnel) (c .running) ≡ true → withFold c (c .last + d) s .folded ≡ false
-      → s .folded || (ltb (c .last) (c .last + d) && folds (c .last) v) ≡ false
+      → s .folded || (not (noTicks (c .last) (c .last + d)) && folds (c .last) v) ≡ false
   fold-said s v m e u r f =
       let p = or-false (s .folded) (lasts (s .until) && foldsAt c (c .last + d) (s .terms .tunnel)) f in
       rw (p .0)
-      (⊎-elim (λ y. clash (sym (all-true y) ∙ p .1)) (λ y. y) (cases (ltb (c .last) (c .last + d) && folds (c .last) v)))
+      (⊎-elim (λ y. clash (sym (all-true y) ∙ p .1)) (λ y. y) (cases (not (noTicks (c .last) (c .last + d)) && folds (c .last) v)))
     where
-      all-true : ltb (c .last) (c .last + d) && folds (c .last) v ≡ true → lasts (s .until) && foldsAt c (c .last + d) (s .terms .tunnel) ≡ true
+      all-true : not (noTicks (c .last) (c .last + d)) && folds (c .last) v ≡ true → lasts (s .until) && foldsAt c (c .last + d) (s .terms .tunnel) ≡ true
       all-true y =
-          let q = and-true (ltb (c .last) (c .last + d)) (folds (c .last) v) y in
+          let q = and-true (not (noTicks (c .last) (c .last + d))) (folds (c .last) v) y in
           let a : any (λ v. named (s .terms .tunnel) v && folds (c .last) v) (c .vcpus) ≡ true =
           any-among (λ v. named (s .terms .tunnel) v && folds (c .last) v) (c .vcpus) v m (rw (is-named (s .terms .tunnel) v e, q .1)) in
           rw (u, r, q .0, a)
@@ -152,7 +162,7 @@ module _ (c : Card) (d : ℕ) (ss : List Stay) (h : List (Option ℕ)) (l : Lawf
           let w = charged (c .last) (c .last + d) v in
           let tw : charged (c .last) (c .last + d) v .terms ≡ v .terms = terms-charged (c .last) (c .last + d) v in
           rw r
-          (pair-return s true (s .folded || (ltb (c .last) (c .last + d) && folds (c .last) v)) (charged (c .last) (c .last + d) v)
+          (pair-return s true (s .folded || (not (noTicks (c .last) (c .last + d)) && folds (c .last) v)) (charged (c .last) (c .last + d) v)
           (suc (c .last)) (c .last + v .terms .period) (tw ∙ p .same-terms) (kept-charged (c .last) d v k sv .order)
           (held-step s true g u r′) (fold-said s v m e u r′)
           (rw tw (tied-charged (c .last) d v (held s h) (s .folded) n sv k (p .tied))))
@@ -177,7 +187,7 @@ module _ (c : Card) (d : ℕ) (ss : List Stay) (h : List (Option ℕ)) (l : Lawf
       same v e = ap (λ x. x .tunnel) (sym (terms-stepped (c .last) (c .last + d) (c .running) v)) ∙ e
 
   -- the VCPU of a stay that lasts
-  its-vcpu : (s : Stay) → Among s ss → lasts (s .until) ≡ true → (v : Vcpu) × (Among v (c .vcpus)) × (v .terms .tunnel ≡ s .terms .tunnel)
+  its-vcpu : (s : Stay) → Among s ss → lasts (s .until) ≡ true → OnTheCard (c .vcpus) (s .terms .tunnel)
   its-vcpu s m u =
       let k : 1 ≤ count (named (s .terms .tunnel)) (c .vcpus) =
       omega (arith, l .on-card (s .terms .tunnel), count-among (lastsAs (s .terms .tunnel)) ss s m (rw (u, eq-eqb (s .terms .tunnel) (s .terms .tunnel) refl))) in

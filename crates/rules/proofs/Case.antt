@@ -1,4 +1,4 @@
--- Document 01's whole case, through the rules: the records of the ten lines that reach the card, and what each gives.
+-- Document 01's whole case, through the rules: nine of its ten records reach the card, and what each of them gives.
 -- Assumes nothing.
 use Prim.Native.Nat.{ℕ}
 use mathlib.Core.Path.{_≡_, refl}

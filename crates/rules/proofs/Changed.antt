@@ -3,7 +3,7 @@
 use mathlib.Core.Path.{_≡_, refl, ap, sym, _∙_, subst}
 use mathlib.Core.Bool.{Bool, true, false, cond, not, _&&_}
 use mathlib.Core.List.{List, [], _∷_, map}
-use mathlib.Core.Logic.{_⊎_, ⊎-elim}
+use mathlib.Core.Logic.{_⊎_, inl, inr, ⊎-elim}
 use mathlib.Core.Option.{Option, none, some}
 use Prim.Native.Nat.{ℕ, zero, suc, _+_, _-_, _≤_, _<_}
 use native.Mathlib.Omega.{arith}
@@ -19,7 +19,7 @@ use Rattle.rules.specs.History.{ticks, isIdle}
 use Rattle.rules.specs.Stays.{Stay, lasts, lastsAs, withEnd, changeStays, owns, held, owners}
 use Rattle.rules.proofs.Tests.{clash, no-some, cases}
 use Rattle.rules.proofs.Named.{named-says, is-named, not-named}
-use Rattle.rules.proofs.Lists.{all-imp, all-map, all-every, all-among, among-all, all-keep, among-keep, count-none, count-any, count-among, count-same, any-false}
+use Rattle.rules.proofs.Lists.{all-imp, all-map, all-every, all-among, among-all, all-keep, among-keep, count-none, count-among, count-same, any-false}
 use Rattle.rules.proofs.Slices.{begun-idle, begun-none, going, going-gap}
 use Rattle.rules.proofs.Sound.{Sound, sound-admitted, sound-set}
 use Rattle.rules.proofs.Window.{within-none, within-idle}
@@ -37,7 +37,26 @@ all-placed P v (w ∷ vs) p h = go (moreUrgent (v .terms) (w .terms)) (all-place
     go true k = (p, h)
     go false k = (h .0, k)
 
-pub count-placed : (test : Vcpu → Bool) (v : Vcpu) (vs : List Vcpu) → count test (placed v vs) ≡ cond (test v) 1 0 + count test vs
+pub among-placed : (v : Vcpu) (vs : List Vcpu) (w : Vcpu) → Among w (placed v vs) → (w ≡ v) ⊎ Among w vs
+among-placed v vs w m = all-among (λ u. (u ≡ v) ⊎ Among u vs) (placed v vs) (all-placed _ v vs (inl refl) (among-all _ vs (λ u k. inr k))) w m
+
+pub placed-itself : (v : Vcpu) (vs : List Vcpu) → Among v (placed v vs)
+placed-itself v [] = inl refl
+placed-itself v (w ∷ vs) = go (moreUrgent (v .terms) (w .terms)) (placed-itself v vs)
+  where
+    go : (t : Bool) → Among v (placed v vs) → Among v (cond t (v ∷ w ∷ vs) (w ∷ placed v vs))
+    go true k = inl refl
+    go false k = inr k
+
+pub placed-among : (v : Vcpu) (vs : List Vcpu) (u : Vcpu) → Among u vs → Among u (placed v vs)
+placed-among v (w ∷ vs) u m = go (moreUrgent (v .terms) (w .terms)) m (λ k. placed-among v vs u k)
+  where
+    go : (t : Bool) → Among u (w ∷ vs) → (Among u vs → Among u (placed v vs)) → Among u (cond t (v ∷ w ∷ vs) (w ∷ placed v vs))
+    go true m ih = inr m
+    go false (inl e) ih = inl e
+    go false (inr k) ih = inr (ih k)
+
+count-placed : (test : Vcpu → Bool) (v : Vcpu) (vs : List Vcpu) → count test (placed v vs) ≡ cond (test v) 1 0 + count test vs
 count-placed test v [] = refl
 count-placed test v (w ∷ vs) = go (moreUrgent (v .terms) (w .terms)) (count-placed test v vs)
   where
@@ -54,7 +73,7 @@ length-placed v (w ∷ vs) = go (moreUrgent (v .terms) (w .terms)) (length-place
     go true k = refl
     go false k = ap suc k
 
-length-keep : (test : Vcpu → Bool) (vs : List Vcpu) → length (keep test vs) ≤ length vs
+pub length-keep : (test : Vcpu → Bool) (vs : List Vcpu) → length (keep test vs) ≤ length vs
 length-keep test [] = omega arith
 length-keep test (v ∷ vs) = go (test v) (length-keep test vs)
   where
@@ -99,7 +118,7 @@ module _ (now : ℕ) (vs : List Vcpu) (ss : List Stay) (h : List (Option ℕ)) (
     newStay = record { terms = d; from = now; until = none; folded = false }
 
     nobody-so-named : count (named (d .tunnel)) vs ≡ 0
-    nobody-so-named = count-any (named (d .tunnel)) vs (a .not-there)
+    nobody-so-named = count-none (named (d .tunnel)) vs (any-false (named (d .tunnel)) vs (a .not-there))
 
     no-stay-so-named : (s : Stay) → Among s ss → lasts (s .until) ≡ true → s .terms .tunnel ≡ d .tunnel → ⊥
     no-stay-so-named s m u e =

@@ -1,5 +1,5 @@
 -- Step 4 means what it says: the chosen VCPU is runnable with usable ticks and no such VCPU is more urgent; idle exactly where
--- there is none; and where identifiers stand once, no other choice fits. Assumes nothing.
+-- there is none; and where identifiers stand once, no other choice is open. Assumes nothing.
 use mathlib.Core.Path.{_≡_, refl, ap, sym, _∙_, subst}
 use mathlib.Core.Bool.{Bool, true, false, cond}
 use mathlib.Core.List.{List, [], _∷_}
@@ -12,13 +12,13 @@ use borrow.Author.Tests.{le-leb, eqb-true, eq-eqb}
 use Rattle.rules.specs.Lists.{keep, count, All, Among}
 use Rattle.rules.specs.Vcpu.{Vcpu, moreUrgent, named}
 use Rattle.rules.specs.Choose.{hasTicks, ready, better, mostUrgent, choose}
-use Rattle.rules.specs.Meaning.{Fits}
+use Rattle.rules.specs.Meaning.{MayRun}
 use Rattle.rules.proofs.Tests.{tests, clash, no-some, cases, and-true}
 use Rattle.rules.proofs.Named.{is-named, named-itself}
 use Rattle.rules.proofs.Lists.{all-imp, all-among, among-keep, all-kept, none-kept, keeps-none, only-one}
 use Rattle.rules.proofs.Urgency.{irreflexive, asymmetric, still-not, total}
 
-pub ready-says : (v : Vcpu) → ready v ≡ true → (v .runnable ≡ true) × (0 < v .usable)
+ready-says : (v : Vcpu) → ready v ≡ true → (v .runnable ≡ true) × (0 < v .usable)
 ready-says v e =
     let p : (v .runnable ≡ true) × (hasTicks v ≡ true) = and-true (v .runnable) (hasTicks v) e in
     (p .0, omega (arith, tests))
@@ -26,15 +26,15 @@ ready-says v e =
 pub is-ready : (v : Vcpu) → v .runnable ≡ true → 0 < v .usable → ready v ≡ true
 is-ready v r h = rw r (omega (arith, le-leb))
 
+nobody-there : (l : List Vcpu) → mostUrgent l ≡ none → l ≡ []
+nobody-there [] e = refl
+nobody-there (v ∷ l) e = no-some (sym e)
+
 most-urgent-says : (l : List Vcpu) (v : Vcpu) → mostUrgent l ≡ some v
     → Among v l × All (λ w. moreUrgent (w .terms) (v .terms) ≡ false) l
 most-urgent-says [] v e = no-some e
-most-urgent-says (x ∷ l) v e = go (mostUrgent l) (λ w. most-urgent-says l w) (none-of l) e
+most-urgent-says (x ∷ l) v e = go (mostUrgent l) (λ w. most-urgent-says l w) (nobody-there l) e
   where
-    none-of : (l : List Vcpu) → mostUrgent l ≡ none → l ≡ []
-    none-of [] f = refl
-    none-of (y ∷ k) f = no-some (sym f)
-
     go : (o : Option Vcpu) → ((w : Vcpu) → o ≡ some w → Among w l × All (λ u. moreUrgent (u .terms) (w .terms) ≡ false) l)
         → (o ≡ none → l ≡ []) → some (better x o) ≡ some v
         → Among v (x ∷ l) × All (λ w. moreUrgent (w .terms) (v .terms) ≡ false) (x ∷ l)
@@ -60,7 +60,7 @@ most-urgent-says (x ∷ l) v e = go (mostUrgent l) (λ w. most-urgent-says l w) 
             subst (λ (z : Vcpu). Among z (x ∷ l) × All (λ u. moreUrgent (u .terms) (z .terms) ≡ false) (x ∷ l)) e
             (inl refl, (irreflexive (x .terms), all-imp (λ u q. still-not (u .terms) (w .terms) (x .terms) q m) l (p .1)))
 
-pub chosen : (vs : List Vcpu) (v : Vcpu) → choose vs ≡ some v → Fits vs v
+pub chosen : (vs : List Vcpu) (v : Vcpu) → choose vs ≡ some v → MayRun vs v
 chosen vs v e =
     let p : Among v (keep ready vs) × All (λ w. moreUrgent (w .terms) (v .terms) ≡ false) (keep ready vs) = most-urgent-says (keep ready vs) v e in
     let q : Among v vs × (ready v ≡ true) = among-keep ready vs v (p .0) in
@@ -72,28 +72,24 @@ chosen vs v e =
     }
 
 pub idle : (vs : List Vcpu) → choose vs ≡ none → All (λ w. ready w ≡ false) vs
-idle vs e = none-kept ready vs (nil (keep ready vs) e)
-  where
-    nil : (l : List Vcpu) → mostUrgent l ≡ none → l ≡ []
-    nil [] f = refl
-    nil (y ∷ k) f = no-some (sym f)
+idle vs e = none-kept ready vs (nobody-there (keep ready vs) e)
 
 pub nobody : (vs : List Vcpu) → All (λ w. ready w ≡ false) vs → choose vs ≡ none
 nobody vs h = ap mostUrgent (keeps-none ready vs h)
 
--- where each identifier stands at most once, the VCPU that fits is the one chosen
-pub only : (vs : List Vcpu) → ((t : ℕ) → count (named t) vs ≤ 1) → (v : Vcpu) → Fits vs v → choose vs ≡ some v
+-- where each identifier stands at most once, the VCPU that may run is the one chosen
+pub only : (vs : List Vcpu) → ((t : ℕ) → count (named t) vs ≤ 1) → (v : Vcpu) → MayRun vs v → choose vs ≡ some v
 only vs once v f = go (choose vs) refl
   where
-    same : (w : Vcpu) → Fits vs w → w .terms .tunnel ≡ v .terms .tunnel → w ≡ v
+    same : (w : Vcpu) → MayRun vs w → w .terms .tunnel ≡ v .terms .tunnel → w ≡ v
     same w g e =
         only-one (named (v .terms .tunnel)) vs (once (v .terms .tunnel)) w v (g .on-card) (f .on-card)
         (is-named (v .terms .tunnel) w e) (named-itself v)
 
-    no-more : (a b : Vcpu) → Fits vs a → Fits vs b → moreUrgent (a .terms) (b .terms) ≡ false
+    no-more : (a b : Vcpu) → MayRun vs a → MayRun vs b → moreUrgent (a .terms) (b .terms) ≡ false
     no-more a b g h = all-among _ vs (h .most-urgent) a (g .on-card) (g .runnable) (g .has-ticks)
 
-    eq : (w : Vcpu) → Fits vs w → w ≡ v
+    eq : (w : Vcpu) → MayRun vs w → w ≡ v
     eq w g = ⊎-elim (λ e. same w g (eqb-true (w .terms .tunnel) (v .terms .tunnel) e)) (λ e. apart e) (cases (eqb (w .terms .tunnel) (v .terms .tunnel)))
       where
         apart : eqb (w .terms .tunnel) (v .terms .tunnel) ≡ false → w ≡ v

@@ -2,34 +2,22 @@
 -- Assumes nothing.
 use mathlib.Core.Path.{_≡_, _∙_, subst}
 use mathlib.Core.Bool.{false}
-use mathlib.Core.List.{List, [], _∷_}
-use mathlib.Core.Option.{some}
-use Prim.Native.Nat.{ℕ, suc, _+_, _≤_}
+use mathlib.Core.List.{List}
+use Prim.Native.Nat.{suc, _+_}
 use native.Mathlib.Omega.{arith}
-use Rattle.rules.specs.Lists.{count, All}
-use Rattle.rules.specs.Vcpu.{Entry, Vcpu, named}
+use Rattle.rules.specs.Vcpu.{Vcpu}
 use Rattle.rules.specs.Turn.{Call}
 use Rattle.rules.specs.History.{after, past}
 use Rattle.rules.specs.Stays.{Stay, stays, held}
 use Rattle.rules.specs.Slices.{slices, recent}
-use Rattle.rules.specs.Demand3.{Demand3, Sorted, recentTicks}
-use Rattle.rules.proofs.Named.{is-named}
-use Rattle.rules.proofs.Lists.{all-imp, all-both, count-among}
+use Rattle.rules.specs.Demand3.{Demand3, recentTicks}
+use Rattle.rules.proofs.Lists.{all-imp, all-both}
 use Rattle.rules.proofs.Slices.{begun, recent-begun}
-use Rattle.rules.proofs.Queue.{pend, pend-all, Rising}
+use Rattle.rules.proofs.Queue.{pend, pend-all}
 use Rattle.rules.proofs.Sound.{Sound}
-use Rattle.rules.proofs.Accepted.{runs-on-card}
 use Rattle.rules.proofs.Held.{all-held}
 use Rattle.rules.proofs.Lawful.{Pair, Lawful}
 use Rattle.rules.proofs.Reached.{reached}
-
-rising-all : (low high : ℕ) (q : List Entry) → Rising low high q → All (λ e. low ≤ e .due) q
-rising-all low high [] r = tt
-rising-all low high (e ∷ q) r = (r .0, all-imp (λ f h. omega (arith, r .0)) q (rising-all (e .due) high q (r .2)))
-
-rising-sorted : (low high : ℕ) (q : List Entry) → Rising low high q → Sorted q
-rising-sorted low high [] r = tt
-rising-sorted low high (e ∷ q) r = (rising-all (e .due) high q (r .2), rising-sorted (e .due) high q (r .2))
 
 pub demand3 : (calls : List Call) → Demand3 calls
 demand3 calls =
@@ -41,20 +29,10 @@ demand3 calls =
       adds-up = all-held (stays calls) (past calls) (l .owned) ∙ l .long;
       stays-on-card = l .on-card;
       same-terms = all-imp (λ s p u. all-imp (λ v q e. q e .same-terms) (after calls .vcpus) (p u)) (stays calls) (l .paired);
-      once = l .once;
-      runs-on-card = λ t e. there t e;
-      whole = all-imp (λ v s. s .whole) (after calls .vcpus) (l .sound);
-      sorted = all-imp (λ v s. rising-sorted (suc (after calls .last)) (after calls .last + v .terms .period) (v .pending) (s .order)) (after calls .vcpus) (l .sound);
-      to-come = all-imp (λ v s. rising-all (suc (after calls .last)) (after calls .last + v .terms .period) (v .pending) (s .order)) (after calls .vcpus) (l .sound);
     }
   where
     l : Lawful (after calls .last) (after calls .vcpus) (stays calls) (past calls)
     l = reached calls .lawful
-
-    there : (t : ℕ) → after calls .running ≡ some t → count (named t) (after calls .vcpus) ≡ 1
-    there t e =
-        let v = runs-on-card (after calls) (reached calls .settled) t e in
-        omega (arith, l .once t, count-among (named t) (after calls .vcpus) (v .0) (v .1) (is-named t (v .0) (v .2)))
 
     budget : (s : Stay) (v : Vcpu) → Sound (after calls .last) v → Pair (after calls .last) s v (past calls) → s .folded ≡ false
         → v .usable + recentTicks calls s ≡ s .terms .capacity

@@ -18,11 +18,11 @@ abbrev pub at : ℕ → Change → Call
 at now asked = record { now = now; asked = asked }
 
 -- of each stay: begun, removed, folded, and the ticks held in the latest window
-pub record Figures : Type 0 where
-  pub from : ℕ
-  pub until : Option ℕ
-  pub folded : Bool
-  pub latest : ℕ
+record Figures : Type 0 where
+  from : ℕ
+  until : Option ℕ
+  folded : Bool
+  latest : ℕ
 
 abbrev figures : ℕ → Option ℕ → Bool → ℕ → Figures
 figures from until folded latest = record { from = from; until = until; folded = folded; latest = latest }
@@ -31,8 +31,8 @@ abbrev figuresOf : List Call → List Figures
 figuresOf calls =
     map (λ s. figures (s .from) (s .until) (s .folded) (heldTicks (window (s .terms .period) 0 (held s (past calls))))) (stays calls)
 
-abbrev usableOf : List Call → List ℕ
-usableOf calls = map (λ v. v .usable) (after calls .vcpus)
+abbrev usableTicks : List Call → List ℕ
+usableTicks calls = map (λ v. v .usable) (after calls .vcpus)
 
 abbrev tenant : ℕ → ℕ → Description
 tenant period capacity = record { tunnel = 2; period = period; capacity = capacity; priority = 2 }
@@ -45,7 +45,7 @@ pub back-held : figuresOf back ≡ figures 0 none false 3 ∷ []
 unfolding turn refusal settled timer moreUrgent charged posted
 back-held = refl
 
-pub back-usable : usableOf back ≡ 3 ∷ []
+pub back-usable : usableTicks back ≡ 3 ∷ []
 unfolding turn refusal settled timer moreUrgent charged posted
 back-usable = refl
 
@@ -53,7 +53,7 @@ back-usable = refl
 abbrev steady : List Call
 steady = at 10 tick ∷ at 3 tick ∷ at 2 tick ∷ at 1 tick ∷ at 0 (wake 2) ∷ at 0 (admit (tenant 10 3)) ∷ []
 
-pub steady-usable : usableOf steady ≡ 3 ∷ []
+pub steady-usable : usableTicks steady ≡ 3 ∷ []
 unfolding turn refusal settled timer moreUrgent charged posted
 steady-usable = refl
 

@@ -1,8 +1,9 @@
--- The theorems about the rules (Meaning, Demand3, Carried), computed examples (Case, Examples, HeadEntry), and the laws that carry them.
--- Assumes nothing.
+-- The theorems about the rules (Demand3, Meaning, Rows, Marks), computed examples (Case, Examples, HeadEntry), and the laws that carry
+-- them. Assumes nothing.
 pub mod Demand3
 pub mod Meaning
-pub mod Carried
+pub mod Rows
+pub mod Marks
 pub mod Case
 pub mod Examples
 pub mod HeadEntry

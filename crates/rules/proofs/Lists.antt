@@ -1,15 +1,15 @@
--- Laws of the words on lists: a fact of every one, membership, keeping, counting, sums, and a map.
+-- Laws of the words on lists: a fact of every one, membership, keeping, counting, and a map.
 -- Assumes nothing.
-use mathlib.Core.Path.{_≡_, refl, sym, _∙_, subst}
-use mathlib.Core.Bool.{Bool, true, false, cond, _||_}
-use mathlib.Core.List.{List, [], _∷_, _++_, map}
+use mathlib.Core.Path.{_≡_, refl, ap, sym, _∙_, subst}
+use mathlib.Core.Bool.{Bool, true, false, cond}
+use mathlib.Core.List.{List, [], _∷_, map}
 use mathlib.Core.Logic.{_⊎_, inl, inr}
 use Prim.Native.Nat.{ℕ, zero, suc, _+_, _≤_}
 use native.Mathlib.Omega.{arith}
 use lib.ListN.{length}
-use Rattle.rules.specs.Lists.{keep, any, count, sum, All, Among}
+use Rattle.rules.specs.Lists.{keep, any, count, All, Among}
 use Rattle.rules.specs.History.{ticks}
-use Rattle.rules.proofs.Tests.{clash, or-false, or-true}
+use Rattle.rules.proofs.Tests.{clash, or-false, or-true, or-right}
 
 module _ {A : Type 0} where
   pub all-imp : {P Q : A → Type 0} → ((a : A) → P a → Q a) → (l : List A) → All P l → All Q l
@@ -45,6 +45,14 @@ module _ {A : Type 0} where
   pub among-all : (P : A → Type 0) (l : List A) → ((a : A) → Among a l → P a) → All P l
   among-all P [] f = tt
   among-all P (b ∷ l) f = (f b (inl refl), among-all P l (λ a m. f a (inr m)))
+
+  pub among-map : {B : Type 0} (g : A → B) (l : List A) (b : B) → Among b (map g l) → (a : A) × Among a l × (b ≡ g a)
+  among-map g (a ∷ l) b (inl e) = (a, inl refl, e)
+  among-map g (a ∷ l) b (inr m) = let p = among-map g l b m in (p .0, inr (p .1), p .2)
+
+  pub map-among : {B : Type 0} (g : A → B) (l : List A) (a : A) → Among a l → Among (g a) (map g l)
+  map-among g (b ∷ l) a (inl e) = inl (ap g e)
+  map-among g (b ∷ l) a (inr m) = inr (map-among g l a m)
 
   pub all-keep : (P : A → Type 0) (test : A → Bool) (l : List A) → All P l → All P (keep test l)
   all-keep P test [] h = tt
@@ -91,12 +99,6 @@ module _ {A : Type 0} where
   count-none test [] h = refl
   count-none test (a ∷ l) h = rw (h .0) (omega (arith, count-none test l (h .1)))
 
-  pub count-any : (test : A → Bool) (l : List A) → any test l ≡ false → count test l ≡ 0
-  count-any test [] h = refl
-  count-any test (a ∷ l) h =
-      let p : (test a ≡ false) × (any test l ≡ false) = or-false (test a) (any test l) h in
-      rw (p .0) (omega (arith, count-any test l (p .1)))
-
   pub any-false : (test : A → Bool) (l : List A) → any test l ≡ false → All (λ a. test a ≡ false) l
   any-false test [] h = tt
   any-false test (a ∷ l) h =
@@ -105,11 +107,7 @@ module _ {A : Type 0} where
 
   pub any-among : (test : A → Bool) (l : List A) (a : A) → Among a l → test a ≡ true → any test l ≡ true
   any-among test (b ∷ l) a (inl f) e = rw (subst (λ (x : A). test x ≡ true) f e)
-  any-among test (b ∷ l) a (inr m) e = rw (any-among test l a m e) (go (test b))
-    where
-      go : (t : Bool) → t || true ≡ true
-      go true = refl
-      go false = refl
+  any-among test (b ∷ l) a (inr m) e = rw (any-among test l a m e) (or-right (test b))
 
   pub any-one : (test : A → Bool) (l : List A) → any test l ≡ true → (a : A) × Among a l × (test a ≡ true)
   any-one test [] e = clash (sym e)
@@ -156,7 +154,3 @@ module _ {A : Type 0} where
   pub length-ticks : (d : ℕ) (a : A) (l : List A) → length (ticks d a l) ≡ d + length l
   length-ticks zero a l = omega arith
   length-ticks (suc d) a l = omega (arith, length-ticks d a l)
-
-  pub sum-append : (f : A → ℕ) (l k : List A) → sum f (l ++ k) ≡ sum f l + sum f k
-  sum-append f [] k = omega arith
-  sum-append f (a ∷ l) k = omega (arith, sum-append f l k)

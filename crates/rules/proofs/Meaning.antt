@@ -5,30 +5,29 @@ use mathlib.Core.Bool.{Bool, true, false, cond, _&&_}
 use mathlib.Core.List.{List, [], _∷_}
 use mathlib.Core.Logic.{inl, inr, ⊎-elim}
 use mathlib.Core.Option.{Option, none, some}
-use Prim.Native.Nat.{ℕ, _≤_}
+use Prim.Native.Nat.{ℕ, suc, _+_, _≤_}
 use native.Mathlib.Omega.{arith}
 use lib.Dec.{ltb}
 use borrow.Author.Tests.{ltb-true, ltb-false}
 use Rattle.rules.specs.Limits.{largestTime}
 use Rattle.rules.specs.Lists.{count, All, Among}
-use Rattle.rules.specs.Vcpu.{Vcpu, named}
-use Rattle.rules.specs.Card.{Card, onCard, find}
+use Rattle.rules.specs.Vcpu.{Entry, Vcpu, named}
+use Rattle.rules.specs.Card.{Card, find}
 use Rattle.rules.specs.Choose.{ready, choose, runs, usableOf}
-use Rattle.rules.specs.Timer.{returns, earliest, timer}
+use Rattle.rules.specs.Timer.{returns, earliest, runnable, timer}
 use Rattle.rules.specs.Refuse.{Refusal, refusal}
 use Rattle.rules.specs.Turn.{Call, turn, settled}
-use Rattle.rules.specs.Meaning.{Fits, Returns, NoneBefore, runnable, Runs, Meaning}
-use Rattle.rules.specs.History.{after}
+use Rattle.rules.specs.Meaning.{MayRun, Returns, NoneBefore, TimerWhile, Sorted, Meaning}
+use Rattle.rules.specs.History.{after, past}
 use Rattle.rules.specs.Stays.{stays}
-use Rattle.rules.specs.History.{past}
 use Rattle.rules.proofs.Tests.{clash, no-some, cases}
-use Rattle.rules.proofs.Named.{named-says, is-named, named-itself}
-use Rattle.rules.proofs.Lists.{all-imp, all-both, all-among, any-among, any-one, keeps-none, only-one}
+use Rattle.rules.proofs.Named.{named-says, is-named, named-itself, on-card-says, is-on-card}
+use Rattle.rules.proofs.Lists.{all-imp, all-both, all-among, keeps-none, only-one}
 use Rattle.rules.proofs.Choice.{chosen, idle, nobody, only, is-ready}
 use Rattle.rules.proofs.Timer.{in-idle, no-return, while-running}
-use Rattle.rules.proofs.Queue.{total}
+use Rattle.rules.proofs.Queue.{total, Rising}
 use Rattle.rules.proofs.Sound.{Sound}
-use Rattle.rules.proofs.Accepted.{passed, Settled}
+use Rattle.rules.proofs.Accepted.{passed, Settled, runs-on-card}
 use Rattle.rules.proofs.Reached.{Reached, reached, card-refused, card-accepted}
 
 time-high : (calls : List Call) → after calls .last ≤ largestTime
@@ -72,27 +71,35 @@ not-found t (w ∷ vs) e = go (named t w) refl e (λ f. not-found t vs f)
     go true n f ih = no-some (sym f)
     go false n f ih = (n, ih f)
 
+rising-all : (low high : ℕ) (q : List Entry) → Rising low high q → All (λ e. low ≤ e .due) q
+rising-all low high [] r = tt
+rising-all low high (e ∷ q) r = (r .0, all-imp (λ f h. omega (arith, r .0)) q (rising-all (e .due) high q (r .2)))
+
+rising-sorted : (low high : ℕ) (q : List Entry) → Rising low high q → Sorted q
+rising-sorted low high [] r = tt
+rising-sorted low high (e ∷ q) r = (rising-all (e .due) high q (r .2), rising-sorted (e .due) high q (r .2))
+
 module _ (c : Card) (s : Settled c) (once : (t : ℕ) → count (named t) (c .vcpus) ≤ 1) (sound : All (Sound (c .last)) (c .vcpus)) where
   same-one : (v w : Vcpu) → Among v (c .vcpus) → Among w (c .vcpus) → v .terms .tunnel ≡ w .terms .tunnel → v ≡ w
   same-one v w m n e =
       only-one (named (w .terms .tunnel)) (c .vcpus) (once (w .terms .tunnel)) v w m n (is-named (w .terms .tunnel) v e)
       (named-itself w)
 
-  fits-runs : (v : Vcpu) → Fits (c .vcpus) v → c .running ≡ some (v .terms .tunnel)
-  fits-runs v f = s .runs-chosen ∙ ap runs (only (c .vcpus) once v f)
+  runs-it : (v : Vcpu) → MayRun (c .vcpus) v → c .running ≡ some (v .terms .tunnel)
+  runs-it v f = s .runs-chosen ∙ ap runs (only (c .vcpus) once v f)
 
-  runs-fits : (v : Vcpu) → Among v (c .vcpus) → c .running ≡ some (v .terms .tunnel) → Fits (c .vcpus) v
-  runs-fits v m e = go (choose (c .vcpus)) refl (sym (s .runs-chosen) ∙ e)
+  it-may-run : (v : Vcpu) → Among v (c .vcpus) → c .running ≡ some (v .terms .tunnel) → MayRun (c .vcpus) v
+  it-may-run v m e = go (choose (c .vcpus)) refl (sym (s .runs-chosen) ∙ e)
     where
-      go : (o : Option Vcpu) → choose (c .vcpus) ≡ o → runs o ≡ some (v .terms .tunnel) → Fits (c .vcpus) v
+      go : (o : Option Vcpu) → choose (c .vcpus) ≡ o → runs o ≡ some (v .terms .tunnel) → MayRun (c .vcpus) v
       go none f g = no-some g
       go (some w) f g =
           let h = chosen (c .vcpus) w f in
           let q : w .terms .tunnel ≡ v .terms .tunnel = cc in
-          subst (λ (x : Vcpu). Fits (c .vcpus) x) (same-one w v (h .on-card) m q) h
+          subst (λ (x : Vcpu). MayRun (c .vcpus) x) (same-one w v (h .on-card) m q) h
 
-  fits-timer : (v : Vcpu) → Fits (c .vcpus) v → (t : ℕ) × (c .timer ≡ some t) × Runs (c .last) (c .vcpus) v t
-  fits-timer v f =
+  its-timer : (v : Vcpu) → MayRun (c .vcpus) v → (t : ℕ) × (c .timer ≡ some t) × TimerWhile (c .last) (c .vcpus) v t
+  its-timer v f =
       let r = while-running (c .last) (c .vcpus) v in
       (r .0, s .timer-set ∙ ap (timer (c .last) (c .vcpus)) (only (c .vcpus) once v f) ∙ r .1, r .2)
 
@@ -133,14 +140,6 @@ module _ (c : Card) (s : Settled c) (once : (t : ℕ) → count (named t) (c .vc
       let n : choose (c .vcpus) ≡ none = nobody (c .vcpus) (all-imp (λ v e. rw e) (c .vcpus) h) in
       s .timer-set ∙ ap (timer (c .last) (c .vcpus)) n ∙ ap (λ (l : List Vcpu). earliest (returns l)) (keeps-none runnable (c .vcpus) h)
 
-  on-card-says : (t : ℕ) → onCard t (c .vcpus) ≡ true → (v : Vcpu) × Among v (c .vcpus) × (v .terms .tunnel ≡ t)
-  on-card-says t e =
-      let p = any-one (named t) (c .vcpus) e in
-      (p .0, p .1, named-says t (p .0) (p .2))
-
-  on-card-there : (t : ℕ) → (v : Vcpu) × Among v (c .vcpus) × (v .terms .tunnel ≡ t) → onCard t (c .vcpus) ≡ true
-  on-card-there t p = any-among (named t) (c .vcpus) (p .0) (p .1) (is-named t (p .0) (p .2))
-
   find-says : (t : ℕ) (v : Vcpu) → find t (c .vcpus) ≡ some v → Among v (c .vcpus) × (v .terms .tunnel ≡ t)
   find-says t v e = let p = found t (c .vcpus) v e in (p .0, named-says t v (p .1))
 
@@ -159,16 +158,20 @@ pub meaning : (calls : List Call) → Meaning (after calls)
 meaning calls =
     let c = after calls in
     record {
-      runs = λ v. (λ f. (f .on-card, fits-runs (after calls) s o k v f), λ p. runs-fits (after calls) s o k v (p .0) (p .1));
-      has-timer = fits-timer (after calls) s o k;
+      runs = λ v. (λ f. (f .on-card, runs-it (after calls) s o k v f), λ p. it-may-run (after calls) s o k v (p .0) (p .1));
+      has-timer = its-timer (after calls) s o k;
       idle = (idle-says (after calls) s o k, idle-there (after calls) s o k);
       idle-timer = idle-timer-says (after calls) s o k;
       no-timer = (no-timer-says (after calls) s o k, no-timer-there (after calls) s o k);
-      once = same-one (after calls) s o k;
-      on-card = λ t. (on-card-says (after calls) s o k t, on-card-there (after calls) s o k t);
+      runs-on-card = runs-on-card (after calls) s;
+      once = o;
+      on-card = λ t. (on-card-says (after calls .vcpus) t, is-on-card (after calls .vcpus) t);
       finds = λ t v. (find-says (after calls) s o k t v, λ p. find-there (after calls) s o k t v (p .0) (p .1));
       reports = λ v f. ap usableOf (only (after calls .vcpus) o v f);
       reports-idle = λ e. ap usableOf (idle-chosen (after calls) s o k e);
+      whole = all-imp (λ v q. q .whole) (after calls .vcpus) k;
+      sorted = all-imp (λ v q. rising-sorted (suc (after calls .last)) (after calls .last + v .terms .period) (v .pending) (q .order)) (after calls .vcpus) k;
+      to-come = all-imp (λ v q. rising-all (suc (after calls .last)) (after calls .last + v .terms .period) (v .pending) (q .order)) (after calls .vcpus) k;
       time-high = time-high calls;
       few-vcpus = r .lawful .few;
       in-range = all-imp (λ v q. q .range) (after calls .vcpus) k;

@@ -39,11 +39,11 @@ abbrev pub Rising : ℕ → ℕ → List Entry → Type 0
 Rising low high [] = Unit {0}
 Rising low high (e ∷ q) = (low ≤ e .due) × (e .due ≤ high) × Rising (e .due) high q
 
-pub part-in : (x : ℕ) (e : Entry) → x ≤ e .due → part x e ≡ e .amount
+part-in : (x : ℕ) (e : Entry) → x ≤ e .due → part x e ≡ e .amount
 unfolding part
 part-in x e h = rw (le-leb x (e .due) h)
 
-pub part-out : (x : ℕ) (e : Entry) → e .due < x → part x e ≡ 0
+part-out : (x : ℕ) (e : Entry) → e .due < x → part x e ≡ 0
 unfolding part
 part-out x e h = rw (lt-leb x (e .due) h)
 
@@ -84,15 +84,20 @@ waits-to-last g [] w = w
 waits-to-last g (e ∷ []) w = refl
 waits-to-last g (e ∷ f ∷ q) w = refl
 
-pub final-to-last : (g : Entry → Entry) (q : List Entry) → waiting q ≡ true → final (toLast g q) ≡ g (final q)
+final-to-last : (g : Entry → Entry) (q : List Entry) → waiting q ≡ true → final (toLast g q) ≡ g (final q)
 final-to-last g [] w = clash (sym w)
 final-to-last g (e ∷ []) w = refl
 final-to-last g (e ∷ f ∷ q) w = last-of e (toLast g (f ∷ q)) (waits-to-last g (f ∷ q) refl) ∙ final-to-last g (f ∷ q) refl
 
-pub final-append : (q : List Entry) (e : Entry) → final (q ++ e ∷ []) ≡ e
+final-append : (q : List Entry) (e : Entry) → final (q ++ e ∷ []) ≡ e
 final-append [] e = refl
 final-append (a ∷ []) e = refl
 final-append (a ∷ b ∷ q) e = final-append (b ∷ q) e
+
+pub same-length : (g : Entry → Entry) (q : List Entry) → length (toLast g q) ≡ length q
+same-length g [] = refl
+same-length g (e ∷ []) = refl
+same-length g (e ∷ f ∷ q) = ap suc (same-length g (f ∷ q))
 
 -- d ticks more in the queue, on its last entry
 pub record Posted (low high d : ℕ) (fold : Bool) (q q′ : List Entry) : Type 0 where
@@ -138,17 +143,12 @@ to-last low high d fold f (e ∷ g ∷ q) r w n h k s =
       in-all = omega (arith, p .in-all);
       order = (r .0, r .1, p .order);
       waits = refl;
-      few = omega (arith, same-length (g ∷ q), n);
+      few = omega (arith, same-length (with f d) (g ∷ q), n);
       counts = λ x j. omega (arith, p .counts x (omega arith));
       keeps = λ x. omega (arith, p .keeps x);
       counts-exactly = λ t x j. omega (arith, p .counts-exactly t x (omega arith));
       keeps-exactly = λ t x j. omega (arith, p .keeps-exactly t x (omega arith));
     }
-  where
-    same-length : (l : List Entry) → length (toLast (with f d) l) ≡ length l
-    same-length [] = refl
-    same-length (a ∷ []) = refl
-    same-length (a ∷ b ∷ l) = ap suc (same-length (b ∷ l))
 
 -- a new entry behind all others
 append : (low high d : ℕ) (e : Entry) (q : List Entry) → Rising low high q → length q < mostPending → low ≤ e .due
@@ -192,12 +192,12 @@ pub joins-says : (last : ℕ) (v : Vcpu) → joins last v ≡ true → (v .ended
 joins-says last v j = let p = and-true (goesOn last v) (waiting (v .pending)) j in (omega (arith, tests), p .1)
 
 -- "if 8 are pending"
-pub folds-says : (last : ℕ) (v : Vcpu) → folds last v ≡ true → (joins last v ≡ false) × (mostPending ≤ length (v .pending))
+folds-says : (last : ℕ) (v : Vcpu) → folds last v ≡ true → (joins last v ≡ false) × (mostPending ≤ length (v .pending))
 folds-says last v f =
     let p = and-true (not (joins last v)) (full v) f in
     (not-true (joins last v) (p .0), omega (arith, tests))
 
-pub appends-says : (last : ℕ) (v : Vcpu) → joins last v ≡ false → folds last v ≡ false → length (v .pending) < mostPending
+appends-says : (last : ℕ) (v : Vcpu) → joins last v ≡ false → folds last v ≡ false → length (v .pending) < mostPending
 appends-says last v j f =
     let n : full v ≡ false = rw j at f in
     omega (arith, tests)

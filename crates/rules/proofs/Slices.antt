@@ -15,6 +15,7 @@ use Rattle.rules.specs.History.{ticks}
 use Rattle.rules.specs.Stays.{heldTicks}
 use Rattle.rules.specs.Slices.{Slice, grow, slices, recent}
 use Rattle.rules.proofs.Tests.{clash, cases, and-true}
+use Rattle.rules.proofs.Lists.{length-ticks}
 
 unfoldable pub going : ℕ → List Bool → ℕ
 going T [] = 0
@@ -26,11 +27,11 @@ begun T x [] = 0
 begun T x (true ∷ m) = cond (leb x (length m - going T m + T)) 1 0 + begun T x m
 begun T x (false ∷ m) = begun T x m
 
-pub going-on : (T : ℕ) (m : List Bool) → suc (going T m) < T → going T (true ∷ m) ≡ suc (going T m)
+going-on : (T : ℕ) (m : List Bool) → suc (going T m) < T → going T (true ∷ m) ≡ suc (going T m)
 unfolding going
 going-on T m h = rw (lt-ltb (suc (going T m)) T h)
 
-pub going-cut : (T : ℕ) (m : List Bool) → T ≤ suc (going T m) → going T (true ∷ m) ≡ 0
+going-cut : (T : ℕ) (m : List Bool) → T ≤ suc (going T m) → going T (true ∷ m) ≡ 0
 unfolding going
 going-cut T m h = rw (le-ltb (suc (going T m)) T h)
 
@@ -38,19 +39,19 @@ pub going-not : (T : ℕ) (m : List Bool) → going T (false ∷ m) ≡ 0
 unfolding going
 going-not T m = refl
 
-pub going-none : (T : ℕ) → going T [] ≡ 0
+going-none : (T : ℕ) → going T [] ≡ 0
 unfolding going
 going-none T = refl
 
-pub begun-in : (T x : ℕ) (m : List Bool) → x ≤ length m - going T m + T → begun T x (true ∷ m) ≡ suc (begun T x m)
+begun-in : (T x : ℕ) (m : List Bool) → x ≤ length m - going T m + T → begun T x (true ∷ m) ≡ suc (begun T x m)
 unfolding begun
 begun-in T x m h = rw (le-leb x (length m - going T m + T) h) (omega arith)
 
-pub begun-out : (T x : ℕ) (m : List Bool) → length m - going T m + T < x → begun T x (true ∷ m) ≡ begun T x m
+begun-out : (T x : ℕ) (m : List Bool) → length m - going T m + T < x → begun T x (true ∷ m) ≡ begun T x m
 unfolding begun
 begun-out T x m h = rw (lt-leb x (length m - going T m + T) h) (omega arith)
 
-pub begun-not : (T x : ℕ) (m : List Bool) → begun T x (false ∷ m) ≡ begun T x m
+begun-not : (T x : ℕ) (m : List Bool) → begun T x (false ∷ m) ≡ begun T x m
 unfolding begun
 begun-not T x m = refl
 
@@ -89,10 +90,6 @@ pub record More (T d D : ℕ) (m : List Bool) : Type 0 where
   pub goes-on : going T m + d < T → going T (ticks d true m) ≡ going T m + d
   pub is-cut : 1 ≤ d → going T m + d ≡ T → going T (ticks d true m) ≡ 0
 
-length-ticks-true : (d : ℕ) (m : List Bool) → length (ticks d true m) ≡ d + length m
-length-ticks-true zero m = omega arith
-length-ticks-true (suc d) m = omega (arith, length-ticks-true d m)
-
 pub more : (T d D : ℕ) (m : List Bool) → D + going T m ≡ length m + T → going T m + d ≤ T → More T d D m
 more T zero D m e h = record { counted = λ x k. omega arith; uncounted = λ x k. refl; goes-on = λ k. omega arith; is-cut = λ h k. absurd (omega arith) }
 more T (suc d) D m e h = step (more T d D m e (omega arith))
@@ -100,7 +97,7 @@ more T (suc d) D m e h = step (more T d D m e (omega arith))
     step : More T d D m → More T (suc d) D m
     step r =
         let g : going T (ticks d true m) ≡ going T m + d = r .goes-on (omega arith) in
-        let n : length (ticks d true m) ≡ d + length m = length-ticks-true d m in
+        let n : length (ticks d true m) ≡ d + length m = length-ticks d true m in
         let s : going T m ≤ length m = going-short T m .0 in
         record {
           counted = λ x k. omega (arith, begun-in T x (ticks d true m) (omega arith), r .counted x k);

@@ -1,14 +1,14 @@
 -- What ties a VCPU's queue to the ticks that its stay held: of the slices begun less than T before a moment x to come, no more ticks were
 -- held than are pending at x or later, and just as many while the queue never folded. Assumes of a charge what Sound does.
 use mathlib.Core.Path.{_≡_, refl, sym, _∙_, subst}
-use mathlib.Core.Bool.{Bool, true, false, cond, _&&_, _||_}
+use mathlib.Core.Bool.{Bool, true, false, cond, not, _&&_, _||_}
 use mathlib.Core.List.{List}
 use mathlib.Core.Logic.{_⊎_, ⊎-elim}
 use Prim.Native.Nat.{ℕ, zero, suc, _+_, _-_, _≤_, _<_}
 use native.Mathlib.Omega.{arith}
 use lib.Dec.{leb, ltb, eqb}
 use lib.ListN.{length}
-use borrow.Author.Tests.{leb-true, leb-false, ltb-true, eqb-true, eqb-false, eq-eqb, le-leb, lt-ltb}
+use borrow.Author.Tests.{leb-true, leb-false, ltb-true, eqb-true, eqb-false, eq-eqb, le-leb}
 use Rattle.rules.specs.Vcpu.{Entry, Vcpu}
 use Rattle.rules.specs.Charge.{waiting, goesOn, joins, folds, posted, noTicks, chargedSome, charged}
 use Rattle.rules.specs.Return.{still}
@@ -97,7 +97,7 @@ module _ (last d : ℕ) (v : Vcpu) (m : List Bool) (folded : Bool) (n : length m
           ⊎-elim (λ z. clash (sym (joined (ltb-true 0 (going (v .terms .period) m) z)) ∙ j)) (λ z. omega (arith, tests))
           (cases (ltb 0 (going (v .terms .period) m)))
 
-  pub tied-held : 1 ≤ d
+  tied-held : 1 ≤ d
       → Tied (v .terms .period) (last + d) (last + d) (posted last d v) (ticks d true m) (folded || folds last v)
   tied-held h =
       record {
@@ -140,21 +140,20 @@ module _ (last d : ℕ) (v : Vcpu) (m : List Bool) (folded : Bool) (n : length m
 pub tied-charged : (last d : ℕ) (v : Vcpu) (m : List Bool) (folded : Bool) → length m ≡ last → Sound last v → d ≤ v .usable
     → Tied (v .terms .period) last (v .ended) (v .pending) m folded
     → Tied (v .terms .period) (last + d) (charged last (last + d) v .ended) (charged last (last + d) v .pending) (ticks d true m)
-    (folded || (ltb last (last + d) && folds last v))
+    (folded || (not (noTicks last (last + d)) && folds last v))
 unfolding charged
 tied-charged last d v m folded n s u t = go (noTicks last (last + d)) refl
   where
     go : (b : Bool) → noTicks last (last + d) ≡ b
         → Tied (v .terms .period) (last + d) (cond b v (chargedSome last (last + d) v) .ended) (cond b v (chargedSome last (last + d) v) .pending) (ticks d true m)
-        (folded || (ltb last (last + d) && folds last v))
+        (folded || (not b && folds last v))
     go true z =
         let k : d ≡ 0 = omega (arith, tests) in
         let q : last ≡ last + 0 = omega arith in
         rw k
-        (tied-folded (v .terms .period) (last + 0) (v .ended) (v .pending) m folded (folded || (ltb last (last + 0) && folds last v))
-        (λ f. or-false folded (ltb last (last + 0) && folds last v) f .0)
+        (tied-folded (v .terms .period) (last + 0) (v .ended) (v .pending) m folded (folded || false) (λ f. or-false folded false f .0)
         (subst (λ (k : ℕ). Tied (v .terms .period) k (v .ended) (v .pending) m folded) q t))
     go false z =
         let k : 1 ≤ d = omega (arith, tests) in
         let e : last + d - last ≡ d = omega arith in
-        rw (e, lt-ltb last (last + d) (omega arith)) (tied-held last d v m folded n s u t k)
+        rw e (tied-held last d v m folded n s u t k)

@@ -9,21 +9,21 @@ use Prim.Native.Nat.{ℕ, _+_, _<_, _≤_, min}
 use native.Mathlib.Omega.{arith}
 use Rattle.rules.specs.Lists.{keep, All, Among}
 use Rattle.rules.specs.Vcpu.{Entry, Vcpu}
-use Rattle.rules.specs.Timer.{earlier, earliest, returns, timer}
+use Rattle.rules.specs.Timer.{earlier, earliest, returns, runnable, above, timer}
 use lib.Dec.{leb}
-use Rattle.rules.specs.Meaning.{Returns, NoneBefore, runnable, above, Runs}
+use Rattle.rules.specs.Meaning.{Returns, NoneBefore, TimerWhile}
 use borrow.Author.Tests.{leb-true, leb-false}
 use Rattle.rules.proofs.Tests.{no-some, cases}
 use Rattle.rules.proofs.Lists.{all-imp, among-keep, all-kept}
 
+earliest-none : (ts : List ℕ) → earliest ts ≡ none → ts ≡ []
+earliest-none [] e = refl
+earliest-none (u ∷ ts) e = no-some (sym e)
+
 earliest-says : (ts : List ℕ) (t : ℕ) → earliest ts ≡ some t → Among t ts × All (λ u. t ≤ u) ts
 earliest-says [] t e = no-some e
-earliest-says (u ∷ ts) t e = go (earliest ts) (λ w. earliest-says ts w) (nil ts) e
+earliest-says (u ∷ ts) t e = go (earliest ts) (λ w. earliest-says ts w) (earliest-none ts) e
   where
-    nil : (l : List ℕ) → earliest l ≡ none → l ≡ []
-    nil [] f = refl
-    nil (y ∷ k) f = no-some (sym f)
-
     go : (o : Option ℕ) → ((w : ℕ) → o ≡ some w → Among w ts × All (λ x. w ≤ x) ts) → (o ≡ none → ts ≡ [])
         → some (earlier u o) ≡ some t → Among t (u ∷ ts) × All (λ x. t ≤ x) (u ∷ ts)
     go none ih n f =
@@ -45,10 +45,6 @@ earliest-says (u ∷ ts) t e = go (earliest ts) (λ w. earliest-says ts w) (nil 
             let h : w < u = leb-false u w q in
             let m : w ≡ t = omega (arith, g) in
             (inr (subst (λ (z : ℕ). Among z ts) m (ih w refl .0)), (omega arith, all-imp (λ x k. omega arith) ts (ih w refl .1)))
-
-earliest-none : (ts : List ℕ) → earliest ts ≡ none → ts ≡ []
-earliest-none [] e = refl
-earliest-none (u ∷ ts) e = no-some (sym e)
 
 among-append : {A : Type 0} (l k : List A) (a : A) → Among a (l ++ k) → Among a l ⊎ Among a k
 among-append [] k a m = inr m
@@ -93,7 +89,7 @@ none-returns (v ∷ l) h = go (v .pending) refl h (λ e. none-returns l e)
     go (x ∷ q) e f ih = let z : _≡_ {A = ℕ} 0 1 = cc in absurd (omega arith)
 
 -- the earliest pending return of those that pass the test, where there is one
-pub earliest-return : (test : Vcpu → Bool) (vs : List Vcpu) (t : ℕ) → earliest (returns (keep test vs)) ≡ some t
+earliest-return : (test : Vcpu → Bool) (vs : List Vcpu) (t : ℕ) → earliest (returns (keep test vs)) ≡ some t
     → Returns test vs t × NoneBefore test vs t
 earliest-return test vs t e =
     let p = earliest-says (returns (keep test vs)) t e in
@@ -117,10 +113,10 @@ in-idle now vs t e = earliest-return runnable vs t e
 -- of a moment `a` and the returns of those that pass a test, where that is the test that step 5 names
 earlier-says : (now : ℕ) (vs : List Vcpu) (v : Vcpu) (a : ℕ) (test : Vcpu → Bool) → a ≡ now + v .usable
     → ((w : Vcpu) → above v w ≡ true → test w ≡ true) → ((w : Vcpu) → test w ≡ true → above v w ≡ true)
-    → Runs now vs v (earlier a (earliest (returns (keep test vs))))
+    → TimerWhile now vs v (earlier a (earliest (returns (keep test vs))))
 earlier-says now vs v a test e f g = go (earliest (returns (keep test vs))) refl
   where
-    go : (o : Option ℕ) → earliest (returns (keep test vs)) ≡ o → Runs now vs v (earlier a o)
+    go : (o : Option ℕ) → earliest (returns (keep test vs)) ≡ o → TimerWhile now vs v (earlier a o)
     go none n =
         record {
           in-time = omega arith;
@@ -141,6 +137,6 @@ earlier-says now vs v a test e f g = go (earliest (returns (keep test vs))) refl
             record { who = r .who; which = r .which; on-card = r .on-card; passes = g (r .who) (r .passes); pends = r .pends; then = m ∙ r .then }
 
 -- "The earlier of `now` + the chosen one's usable ticks and the earliest pending return of any runnable VCPU more urgent than it."
-pub while-running : (now : ℕ) (vs : List Vcpu) (v : Vcpu) → (t : ℕ) × (timer now vs (some v) ≡ some t) × Runs now vs v t
+pub while-running : (now : ℕ) (vs : List Vcpu) (v : Vcpu) → (t : ℕ) × (timer now vs (some v) ≡ some t) × TimerWhile now vs v t
 unfolding timer
 while-running now vs v = (_, refl, earlier-says now vs v _ _ (omega arith) (λ w e. e) (λ w e. e))

@@ -1,24 +1,16 @@
 -- Demand 3, sentence by sentence, of the card, the stays and the history after any calls from the empty card.
--- Proved for every list of calls in proofs/Demand3. Assumes nothing.
-use Prim.Native.Nat.{ℕ, _+_, _≤_, _<_}
+-- Proved for every list of calls in proofs/Demand3. What holds of the card alone is in Meaning. Assumes nothing.
+use Prim.Native.Nat.{ℕ, _+_, _≤_}
 use mathlib.Core.Path.{_≡_}
 use mathlib.Core.Bool.{true, false}
-use mathlib.Core.List.{List, [], _∷_}
-use mathlib.Core.Option.{some}
+use mathlib.Core.List.{List}
 use lib.ListN.{length}
 use Rattle.rules.specs.Lists.{count, sum, All}
-use Rattle.rules.specs.Vcpu.{Entry, Vcpu, named}
+use Rattle.rules.specs.Vcpu.{Vcpu, named}
 use Rattle.rules.specs.Turn.{Call}
 use Rattle.rules.specs.History.{after, past, idleTicks}
 use Rattle.rules.specs.Stays.{Stay, lasts, lastsAs, stays, held, heldTicks, window, EachTick, owners}
 use Rattle.rules.specs.Slices.{slices, recent}
-
-abbrev pub pendingTicks : Vcpu → ℕ
-pendingTicks v = sum (λ e. e .amount) (v .pending)
-
-abbrev pub Sorted : List Entry → Type 0
-Sorted [] = Unit {0}
-Sorted (e ∷ q) = All (λ f. e .due ≤ f .due) q × Sorted q
 
 -- of a stay that lasts, a fact of the VCPU on the card that has its identifier
 abbrev pub OfItsVcpu : List Call → (Vcpu → Type 0) → Stay → Type 0
@@ -53,11 +45,3 @@ pub record Demand3 (calls : List Call) : Type 0 where
   -- the stays that last are those of the VCPUs on the card, one for each, with the same terms
   pub stays-on-card : (tunnel : ℕ) → count (lastsAs tunnel) (stays calls) ≡ count (named tunnel) (after calls .vcpus)
   pub same-terms : All (λ s. OfItsVcpu calls (λ v. v .terms ≡ s .terms) s) (stays calls)
-  -- an identifier stands at most once, and nobody runs who is not on the card
-  pub once : (tunnel : ℕ) → count (named tunnel) (after calls .vcpus) ≤ 1
-  pub runs-on-card : (tunnel : ℕ) → after calls .running ≡ some tunnel → count (named tunnel) (after calls .vcpus) ≡ 1
-  -- "Usable plus pending equals C after every accepted call."
-  pub whole : All (λ v. v .usable + pendingTicks v ≡ v .terms .capacity) (after calls .vcpus)
-  -- the return queue is sorted, and what is pending is still to come
-  pub sorted : All (λ v. Sorted (v .pending)) (after calls .vcpus)
-  pub to-come : All (λ v. All (λ e. after calls .last < e .due) (v .pending)) (after calls .vcpus)

@@ -1,20 +1,21 @@
--- What steps 4 and 5 and the numbers of the card mean, as facts of a card. Proved of the card after any calls in proofs/Meaning.
--- Assumes nothing.
+-- What steps 4 and 5 and the numbers of the card mean, as facts of a card, and that its budgets add up.
+-- Proved of the card after any calls in proofs/Meaning. Assumes nothing.
 use Prim.Native.Nat.{ℕ, _+_, _≤_, _<_}
 use mathlib.Core.Path.{_≡_}
-use mathlib.Core.Bool.{Bool, true, false, _&&_}
-use mathlib.Core.List.{List}
+use mathlib.Core.Bool.{Bool, true, false}
+use mathlib.Core.List.{List, [], _∷_}
 use mathlib.Core.Logic.{_⊎_, _↔_}
 use mathlib.Core.Option.{none, some}
 use lib.ListN.{length}
 use Rattle.rules.specs.Limits.{largestTime, largestTunnel, largestPeriod, mostVcpus, mostPending}
-use Rattle.rules.specs.Lists.{All, Among}
-use Rattle.rules.specs.Vcpu.{Description, Entry, Vcpu, moreUrgent}
+use Rattle.rules.specs.Lists.{count, sum, All, Among}
+use Rattle.rules.specs.Vcpu.{Description, Entry, Vcpu, moreUrgent, named}
 use Rattle.rules.specs.Card.{Card, onCard, find}
+use Rattle.rules.specs.Timer.{runnable, above}
 use Rattle.rules.specs.Turn.{report}
 
 -- `v` may run: it is on the card, runnable, with usable ticks, and no such VCPU is more urgent
-pub record Fits (vs : List Vcpu) (v : Vcpu) : Type 0 where
+pub record MayRun (vs : List Vcpu) (v : Vcpu) : Type 0 where
   pub on-card : Among v vs
   pub runnable : v .runnable ≡ true
   pub has-ticks : 0 < v .usable
@@ -33,15 +34,8 @@ pub record Returns (test : Vcpu → Bool) (vs : List Vcpu) (t : ℕ) : Type 0 wh
 abbrev pub NoneBefore : (Vcpu → Bool) → List Vcpu → ℕ → Type 0
 NoneBefore test vs t = All (λ w. test w ≡ true → All (λ e. t ≤ e .due) (w .pending)) vs
 
-abbrev pub runnable : Vcpu → Bool
-runnable w = w .runnable
-
--- runnable, and more urgent than `v`
-abbrev pub above : Vcpu → Vcpu → Bool
-above v w = w .runnable && moreUrgent (w .terms) (v .terms)
-
 -- "The earlier of `now` + the chosen one's usable ticks and the earliest pending return of any runnable VCPU more urgent than it."
-pub record Runs (now : ℕ) (vs : List Vcpu) (v : Vcpu) (t : ℕ) : Type 0 where
+pub record TimerWhile (now : ℕ) (vs : List Vcpu) (v : Vcpu) (t : ℕ) : Type 0 where
   pub in-time : t ≤ now + v .usable
   pub before-returns : NoneBefore (above v) vs t
   pub one-of-them : (t ≡ now + v .usable) ⊎ Returns (above v) vs t
@@ -54,23 +48,41 @@ pub record InRange (d : Description) : Type 0 where
   pub capacity-low : 1 ≤ d .capacity
   pub capacity-high : d .capacity ≤ d .period
 
+-- a VCPU on the card has the identifier, all 24 bits of it
+abbrev pub OnTheCard : List Vcpu → ℕ → Type 0
+OnTheCard vs tunnel = (v : Vcpu) × Among v vs × (v .terms .tunnel ≡ tunnel)
+
+abbrev pub pendingTicks : Vcpu → ℕ
+pendingTicks v = sum (λ e. e .amount) (v .pending)
+
+abbrev pub Sorted : List Entry → Type 0
+Sorted [] = Unit {0}
+Sorted (e ∷ q) = All (λ f. e .due ≤ f .due) q × Sorted q
+
 pub record Meaning (c : Card) : Type 0 where
-  -- the one that runs fits, and has the timer
-  pub runs : (v : Vcpu) → Fits (c .vcpus) v ↔ (Among v (c .vcpus) × (c .running ≡ some (v .terms .tunnel)))
-  pub has-timer : (v : Vcpu) → Fits (c .vcpus) v → (t : ℕ) × (c .timer ≡ some t) × Runs (c .last) (c .vcpus) v t
+  -- the one that runs is the one that may, and it has the timer
+  pub runs : (v : Vcpu) → MayRun (c .vcpus) v ↔ (Among v (c .vcpus) × (c .running ≡ some (v .terms .tunnel)))
+  pub has-timer : (v : Vcpu) → MayRun (c .vcpus) v → (t : ℕ) × (c .timer ≡ some t) × TimerWhile (c .last) (c .vcpus) v t
   -- "if there is none, idle. In idle: the earliest pending return of any runnable VCPU."
   pub idle : c .running ≡ none ↔ All (λ v. v .runnable ≡ true → v .usable ≡ 0) (c .vcpus)
   pub idle-timer : c .running ≡ none → (t : ℕ) → c .timer ≡ some t
       → Returns runnable (c .vcpus) t × NoneBefore runnable (c .vcpus) t
   -- "If nobody is runnable, there is no timer."
   pub no-timer : c .timer ≡ none ↔ All (λ v. v .runnable ≡ false) (c .vcpus)
-  -- an identifier, all 24 bits of it, stands at most once
-  pub once : (v w : Vcpu) → Among v (c .vcpus) → Among w (c .vcpus) → v .terms .tunnel ≡ w .terms .tunnel → v ≡ w
-  pub on-card : (tunnel : ℕ) → onCard tunnel (c .vcpus) ≡ true ↔ (v : Vcpu) × Among v (c .vcpus) × (v .terms .tunnel ≡ tunnel)
+  -- nobody runs who is not on the card, and an identifier stands there at most once
+  pub runs-on-card : (tunnel : ℕ) → c .running ≡ some tunnel → OnTheCard (c .vcpus) tunnel
+  pub once : (tunnel : ℕ) → count (named tunnel) (c .vcpus) ≤ 1
+  -- the rules look an identifier up, all 24 bits of it
+  pub on-card : (tunnel : ℕ) → onCard tunnel (c .vcpus) ≡ true ↔ OnTheCard (c .vcpus) tunnel
   pub finds : (tunnel : ℕ) (v : Vcpu) → find tunnel (c .vcpus) ≡ some v ↔ (Among v (c .vcpus) × (v .terms .tunnel ≡ tunnel))
   -- the report has the usable ticks of the one that runs, 0 in idle
-  pub reports : (v : Vcpu) → Fits (c .vcpus) v → report c .usable ≡ v .usable
+  pub reports : (v : Vcpu) → MayRun (c .vcpus) v → report c .usable ≡ v .usable
   pub reports-idle : c .running ≡ none → report c .usable ≡ 0
+  -- "Usable plus pending equals C after every accepted call."
+  pub whole : All (λ v. v .usable + pendingTicks v ≡ v .terms .capacity) (c .vcpus)
+  -- the return queue is sorted, and what is pending is still to come
+  pub sorted : All (λ v. Sorted (v .pending)) (c .vcpus)
+  pub to-come : All (λ v. All (λ e. c .last < e .due) (v .pending)) (c .vcpus)
   -- the limits hold
   pub time-high : c .last ≤ largestTime
   pub few-vcpus : length (c .vcpus) ≤ mostVcpus

@@ -1,4 +1,4 @@
--- Document 01, "Reply numbers", rows 1 to 8: the first row from the top that applies.
+-- Document 01, "Reply numbers", rows 1 to 8: the first row from the top that applies. Rows states the same in plain facts.
 -- Assumes nothing.
 use Prim.Native.Nat.{ℕ}
 use mathlib.Core.Bool.{Bool, cond, not}
@@ -19,17 +19,31 @@ pub record Refusal : Type 0 where
 abbrev pub row : Bool → ℕ → ℕ → Option Refusal → Option Refusal
 row applies number detail below = cond applies (some (record { number = number; detail = detail })) below
 
+-- the tests of rows 1, 2 and 3
+abbrev pub aboveLargest : ℕ → Bool
+aboveLargest now = ltb largestTime now
+
+abbrev pub belowLast : ℕ → ℕ → Bool
+belowLast last now = ltb now last
+
+abbrev pub later : ℕ → ℕ → Bool
+later t now = ltb t now
+
 -- "there is a timer and the time is later than it", with the timer as the detail
 abbrev pub rowLate : Option ℕ → ℕ → Option Refusal → Option Refusal
 rowLate none now below = below
-rowLate (some t) now below = row (ltb t now) 3 t below
+rowLate (some t) now below = row (later t now) 3 t below
 
 abbrev pub timeRows : ℕ → Option ℕ → ℕ → Option Refusal → Option Refusal
-timeRows last timer now below = row (ltb largestTime now) 1 0 (row (ltb now last) 2 0 (rowLate timer now below))
+timeRows last timer now below = row (aboveLargest now) 1 0 (row (belowLast last now) 2 0 (rowLate timer now below))
+
+-- row 4
+abbrev pub above24Bits : ℕ → Bool
+above24Bits tunnel = ltb largestTunnel tunnel
 
 abbrev pub admitRows : List Vcpu → Description → Option Refusal
 admitRows vs d =
-    row (ltb largestTunnel (d .tunnel)) 4 0
+    row (above24Bits (d .tunnel)) 4 0
     (row (not (inRange (d .period) (d .capacity))) 5 0
     (row (onCard (d .tunnel) vs) 6 0
     (row (leb mostVcpus (length vs)) 8 0
@@ -37,7 +51,7 @@ admitRows vs d =
 
 -- wake, block, remove
 abbrev pub namingRows : List Vcpu → ℕ → Option Refusal
-namingRows vs tunnel = row (ltb largestTunnel tunnel) 4 0 (row (not (onCard tunnel vs)) 7 0 none)
+namingRows vs tunnel = row (above24Bits tunnel) 4 0 (row (not (onCard tunnel vs)) 7 0 none)
 
 abbrev pub callRows : List Vcpu → Change → Option Refusal
 callRows vs (admit d) = admitRows vs d

@@ -1,7 +1,7 @@
 -- Stays: from an admit to the remove of the same identifier, and the ticks that a stay held.
 -- Assumes nothing.
 use Prim.Native.Nat.{ℕ, _+_}
-use mathlib.Core.Bool.{Bool, true, false, cond, _&&_, _||_}
+use mathlib.Core.Bool.{Bool, true, false, cond, not, _&&_, _||_}
 use mathlib.Core.List.{List, [], _∷_, map}
 use mathlib.Core.Option.{Option, none, some}
 use lib.Dec.{leb, ltb, eqb}
@@ -9,7 +9,7 @@ use lib.ListN.{length, take, drop}
 use Rattle.rules.specs.Lists.{any, count}
 use Rattle.rules.specs.Vcpu.{Description, named}
 use Rattle.rules.specs.Card.{Card}
-use Rattle.rules.specs.Charge.{folds}
+use Rattle.rules.specs.Charge.{folds, noTicks}
 use Rattle.rules.specs.Change.{Change, admit, wake, block, remove, tick}
 use Rattle.rules.specs.Refuse.{Refusal, refusal}
 use Rattle.rules.specs.Turn.{Call}
@@ -33,7 +33,7 @@ lastsAs tunnel s = lasts (s .until) && eqb (s .terms .tunnel) tunnel
 -- an accepted call at `now` makes the queue of the VCPU so named fold
 abbrev pub foldsAt : Card → ℕ → ℕ → Bool
 foldsAt c now tunnel =
-    holds tunnel (c .running) && ltb (c .last) now && any (λ v. named tunnel v && folds (c .last) v) (c .vcpus)
+    holds tunnel (c .running) && not (noTicks (c .last) now) && any (λ v. named tunnel v && folds (c .last) v) (c .vcpus)
 
 abbrev pub withFold : Card → ℕ → Stay → Stay
 withFold c now s =

@@ -1,7 +1,7 @@
 -- Document 01, step 5: the timer.
 -- Assumes nothing.
 use Prim.Native.Nat.{ℕ, _+_, min}
-use mathlib.Core.Bool.{_&&_}
+use mathlib.Core.Bool.{Bool, _&&_}
 use mathlib.Core.List.{List, [], _∷_, _++_, map}
 use mathlib.Core.Option.{Option, none, some}
 use Rattle.rules.specs.Lists.{keep}
@@ -20,9 +20,15 @@ abbrev pub returns : List Vcpu → List ℕ
 returns [] = []
 returns (v ∷ vs) = map (λ e. e .due) (v .pending) ++ returns vs
 
--- in idle, and beside the chosen one
+abbrev pub runnable : Vcpu → Bool
+runnable w = w .runnable
+
+-- runnable, and more urgent than `v`
+abbrev pub above : Vcpu → Vcpu → Bool
+above v w = w .runnable && moreUrgent (w .terms) (v .terms)
+
 unfoldable pub timer : ℕ → List Vcpu → Option Vcpu → Option ℕ
-timer now vs none = earliest (returns (keep (λ w. w .runnable) vs))
-timer now vs (some v) =
-    some
-    (earlier (now + v .usable) (earliest (returns (keep (λ w. w .runnable && moreUrgent (w .terms) (v .terms)) vs))))
+-- "In idle: the earliest pending return of any runnable VCPU. If nobody is runnable, there is no timer."
+timer now vs none = earliest (returns (keep runnable vs))
+-- "The earlier of `now` + the chosen one's usable ticks and the earliest pending return of any runnable VCPU more urgent than it."
+timer now vs (some v) = some (earlier (now + v .usable) (earliest (returns (keep (above v) vs))))

@@ -1,0 +1,278 @@
+-- The reply table: the reply is refused with a row's number and detail exactly when that row is the first that applies, and accepted
+-- exactly when none does. Of every card and every call. Assumes nothing.
+use mathlib.Core.Path.{_≡_, refl, ap, sym, _∙_, subst}
+use mathlib.Core.Bool.{Bool, true, false, _&&_}
+use mathlib.Core.Logic.{_⊎_, inl, inr, ⊎-elim}
+use mathlib.Core.Option.{Option, none, some}
+use Prim.Native.Nat.{ℕ, suc, _≤_, _<_}
+use native.Mathlib.Omega.{arith}
+use lib.Dec.{leb, ltb}
+use lib.ListN.{length}
+use borrow.Author.Tests.{leb-false, not-true, not-false}
+use Rattle.rules.specs.Limits.{largestTime, largestTunnel, largestPeriod, mostVcpus, inRange}
+use Rattle.rules.specs.Vcpu.{Description}
+use Rattle.rules.specs.Card.{Card, onCard}
+use Rattle.rules.specs.Change.{Change, admit, wake, block, remove, tick}
+use Rattle.rules.specs.Refuse.{Refusal, row, aboveLargest, belowLast, later, rowLate, above24Bits, admitRows, namingRows, callRows, refusal}
+use Rattle.rules.specs.Turn.{Call, ok, refused, turn, accepted, answered, report}
+use Rattle.rules.specs.Meaning.{OnTheCard}
+use Rattle.rules.specs.Rows.{AdmitOf, WakeBlockRemoveOf, OutOfRange, Row, row-1, row-2, row-3, row-4, row-5, row-6, row-7, row-8, First, NoRow, Table}
+use Rattle.rules.proofs.Tests.{tests, clash, no-some, cases, and-false}
+use Rattle.rules.proofs.Named.{on-card-says, is-on-card}
+use Rattle.rules.proofs.Accepted.{range-says}
+
+-- what a call names, and what an admit carries
+
+abbrev tunnelOf : Change → Option ℕ
+tunnelOf (admit d) = some (d .tunnel)
+tunnelOf (wake tunnel) = some tunnel
+tunnelOf (block tunnel) = some tunnel
+tunnelOf (remove tunnel) = some tunnel
+tunnelOf tick = none
+
+abbrev termsOf : Change → Option Description
+termsOf (admit d) = some d
+termsOf (wake tunnel) = none
+termsOf (block tunnel) = none
+termsOf (remove tunnel) = none
+termsOf tick = none
+
+others-name : (asked : Change) (tunnel : ℕ) → WakeBlockRemoveOf asked tunnel → (tunnelOf asked ≡ some tunnel) × (termsOf asked ≡ none)
+others-name asked tunnel (inl e) = (ap tunnelOf e, ap termsOf e)
+others-name asked tunnel (inr (inl e)) = (ap tunnelOf e, ap termsOf e)
+others-name asked tunnel (inr (inr e)) = (ap tunnelOf e, ap termsOf e)
+
+names : (asked : Change) (tunnel : ℕ) → AdmitOf asked tunnel ⊎ WakeBlockRemoveOf asked tunnel → tunnelOf asked ≡ some tunnel
+names asked tunnel (inl p) = ap tunnelOf (p .1) ∙ ap some (p .2)
+names asked tunnel (inr p) = others-name asked tunnel p .0
+
+same : {A : Type 0} (o : Option A) (a b : A) → o ≡ some a → o ≡ some b → a ≡ b
+same o a b e f = let g : some a ≡ some b = sym e ∙ f in cc
+
+out-of-range : (period capacity : ℕ) → inRange period capacity ≡ false
+    → OutOfRange 1 largestPeriod period ⊎ OutOfRange 1 period capacity
+out-of-range period capacity e =
+    ⊎-elim (λ f. ⊎-elim (λ g. ⊎-elim (λ h. inl (inl (leb-false 1 period h))) (λ h. inl (inr (leb-false period largestPeriod h))) (and-false (leb 1 period) (leb period largestPeriod) g))
+    (λ g. inr (inl (leb-false 1 capacity g))) (and-false (leb 1 period && leb period largestPeriod) (leb 1 capacity) f))
+    (λ f. inr (inr (leb-false capacity period f)))
+    (and-false (leb 1 period && leb period largestPeriod && leb 1 capacity) (leb capacity period) e)
+
+not-out : (period capacity : ℕ) → inRange period capacity ≡ true → OutOfRange 1 largestPeriod period ⊎ OutOfRange 1 period capacity → ⊥
+not-out period capacity e o = go (range-says period capacity e) o
+  where
+    go : (1 ≤ period) × (period ≤ largestPeriod) × (1 ≤ capacity) × (capacity ≤ period)
+        → OutOfRange 1 largestPeriod period ⊎ OutOfRange 1 period capacity → ⊥
+    go p (inl (inl h)) = omega (arith, p .0)
+    go p (inl (inr h)) = omega (arith, p .1)
+    go p (inr (inl h)) = omega (arith, p .2)
+    go p (inr (inr h)) = omega (arith, p .3)
+
+module _ (c : Card) (call : Call) where
+  -- none of the rows above this number applies
+  abbrev Above : ℕ → Type 0
+  Above number = (n d : ℕ) → n < number → Row c call n d → ⊥
+
+  abbrev Not : ℕ → Type 0
+  Not number = (d : ℕ) → Row c call number d → ⊥
+
+  -- what the first row that applies says, or that none does
+  abbrev Says : Option Refusal → Type 0
+  Says none = NoRow c call
+  Says (some r) = First c call (r .number) (r .detail)
+
+  skip : (number : ℕ) → Not number → Above number → Above (suc number)
+  skip number f a n d h r =
+      ⊎-elim (λ e. a n d (omega (arith, tests)) r) (λ e. f d (subst (λ (k : ℕ). Row c call k d) (omega (arith, tests)) r)) (cases (ltb n number))
+
+  -- a row either applies, and is the first, or the rows below it are left
+  step : (o : Option Refusal) (t : Bool) (number detail : ℕ) (below : Option Refusal) → row t number detail below ≡ o
+      → (t ≡ true → Row c call number detail) → (t ≡ false → Not number) → (below ≡ o → Above (suc number) → Says o) → Above number → Says o
+  step o true number detail below e f g next a = subst Says e (record { applies = f refl; none-above = a })
+  step o false number detail below e f g next a = next e (skip number (g refl) a)
+
+  between : (n d : ℕ) → Row c call n d → (1 ≤ n) × (n ≤ 8)
+  between n d (row-1 h) = omega arith
+  between n d (row-2 h) = omega arith
+  between n d (row-3 t e h) = omega arith
+  between n d (row-4 t e h) = omega arith
+  between n d (row-5 t e h) = omega arith
+  between n d (row-6 t e h) = omega arith
+  between n d (row-7 t e h) = omega arith
+  between n d (row-8 t e h) = omega arith
+
+  top : Above 1
+  top n d h r = omega (arith, between n d r .0)
+
+  bottom : Above 9 → Says none
+  bottom a n d r = a n d (omega (arith, between n d r .1)) r
+
+  -- each row taken apart
+
+  of-1 : (d : ℕ) → Row c call 1 d → largestTime < call .now
+  of-1 d (row-1 h) = h
+
+  of-2 : (d : ℕ) → Row c call 2 d → call .now < c .last
+  of-2 d (row-2 h) = h
+
+  of-3 : (d : ℕ) → Row c call 3 d → (c .timer ≡ some d) × (d < call .now)
+  of-3 d (row-3 t e h) = (e, h)
+
+  of-4 : (d : ℕ) → Row c call 4 d → (t : ℕ) × (tunnelOf (call .asked) ≡ some t) × (largestTunnel < t)
+  of-4 d (row-4 t e h) = (t, names (call .asked) t e, h)
+
+  of-5 : (d : ℕ) → Row c call 5 d
+      → (t : Description) × (termsOf (call .asked) ≡ some t) × (OutOfRange 1 largestPeriod (t .period) ⊎ OutOfRange 1 (t .period) (t .capacity))
+  of-5 d (row-5 t e h) = (t, ap termsOf e, h)
+
+  of-6 : (d : ℕ) → Row c call 6 d → (t : Description) × (termsOf (call .asked) ≡ some t) × OnTheCard (c .vcpus) (t .tunnel)
+  of-6 d (row-6 t e h) = (t, ap termsOf e, h)
+
+  of-7 : (d : ℕ) → Row c call 7 d → (t : ℕ) × (tunnelOf (call .asked) ≡ some t) × (termsOf (call .asked) ≡ none) × (OnTheCard (c .vcpus) t → ⊥)
+  of-7 d (row-7 t e h) = let p = others-name (call .asked) t e in (t, p .0, p .1, h)
+
+  of-8 : (d : ℕ) → Row c call 8 d → (t : Description) × (termsOf (call .asked) ≡ some t) × (mostVcpus ≤ length (c .vcpus))
+  of-8 d (row-8 t e h) = (t, ap termsOf e, h)
+
+  -- rows 5, 6 and 8 are an admit's
+  no-admit : (a : Change) → call .asked ≡ a → termsOf a ≡ none → Not 5 × Not 6 × Not 8
+  no-admit a e f = (
+    λ d r. no-some (sym f ∙ ap termsOf (sym e) ∙ of-5 d r .1),
+    λ d r. no-some (sym f ∙ ap termsOf (sym e) ∙ of-6 d r .1),
+    λ d r. no-some (sym f ∙ ap termsOf (sym e) ∙ of-8 d r .1),
+  )
+
+  late : (o : Option Refusal) (u : Option ℕ) → c .timer ≡ u → (below : Option Refusal) → rowLate u (call .now) below ≡ o
+      → (below ≡ o → Above 4 → Says o) → Above 3 → Says o
+  late o none e below w next a = next w (skip 3 (λ d r. no-some (sym e ∙ of-3 d r .0)) a)
+  late o (some t) e below w next a =
+      step o (later t (call .now)) 3 t _ w (λ f. row-3 t e (omega (arith, tests)))
+      (λ f d r. let q : t ≡ d = same (c .timer) t d e (of-3 d r .0) in omega (arith, tests, of-3 d r .1)) next a
+
+  -- "identifier above 24 bits"
+  high : (t : ℕ) → AdmitOf (call .asked) t ⊎ WakeBlockRemoveOf (call .asked) t → (d : ℕ) → Row c call 4 d → largestTunnel < t
+  high t n d r =
+      let p = of-4 d r in
+      let q : t ≡ p .0 = same (tunnelOf (call .asked)) t (p .0) (names (call .asked) t n) (p .1) in
+      omega (arith, p .2)
+
+  admitting : (o : Option Refusal) (d : Description) → call .asked ≡ admit d → admitRows (c .vcpus) d ≡ o → Above 4 → Says o
+  admitting o d e w a =
+      step o (above24Bits (d .tunnel)) 4 0 _ w (λ f. row-4 (d .tunnel) (inl (d, e, refl)) (omega (arith, tests))) (λ f n r. omega (arith, tests, high (d .tunnel) (inl (d, e, refl)) n r))
+      (λ w. step o _ 5 0 _ w (λ f. row-5 d e (out-of-range (d .period) (d .capacity) (not-true _ f))) (λ f n r. in-range (not-false _ f) n r)
+      (λ w. step o _ 6 0 _ w (λ f. row-6 d e (on-card-says (c .vcpus) (d .tunnel) f)) (λ f n r. clash (sym (there n r) ∙ f))
+      (λ w b. step o (leb mostVcpus (length (c .vcpus))) 8 0 _ w (λ f. row-8 d e (omega (arith, tests))) (λ f n r. omega (arith, tests, of-8 n r .2)) (λ w k. subst Says w (bottom k)) (skip 7 not-7 b)))) a
+    where
+      is-d : (t : Description) → termsOf (call .asked) ≡ some t → t ≡ d
+      is-d t f = same (termsOf (call .asked)) t d f (ap termsOf e)
+
+      in-range : inRange (d .period) (d .capacity) ≡ true → Not 5
+      in-range f n r =
+          let p = of-5 n r in
+          not-out (d .period) (d .capacity) f
+          (subst (λ (x : Description). OutOfRange 1 largestPeriod (x .period) ⊎ OutOfRange 1 (x .period) (x .capacity)) (is-d (p .0) (p .1)) (p .2))
+
+      there : (n : ℕ) → Row c call 6 n → onCard (d .tunnel) (c .vcpus) ≡ true
+      there n r =
+          let p = of-6 n r in
+          is-on-card (c .vcpus) (d .tunnel) (subst (λ (x : Description). OnTheCard (c .vcpus) (x .tunnel)) (is-d (p .0) (p .1)) (p .2))
+
+      not-7 : Not 7
+      not-7 n r = no-some (sym (of-7 n r .2) ∙ ap termsOf e)
+
+  naming : (o : Option Refusal) (t : ℕ) → WakeBlockRemoveOf (call .asked) t → namingRows (c .vcpus) t ≡ o → Above 4 → Says o
+  naming o t i w a =
+      step o (above24Bits t) 4 0 _ w (λ f. row-4 t (inr i) (omega (arith, tests))) (λ f n r. omega (arith, tests, high t (inr i) n r))
+      (λ w b. step o _ 7 0 _ w (λ f. row-7 t i (λ p. clash (sym (is-on-card (c .vcpus) t p) ∙ not-true _ f))) (λ f n r. not-there n r (on-card-says (c .vcpus) t (not-false _ f)))
+      (λ w k. subst Says w (bottom (skip 8 (x .2) k))) (skip 6 (x .1) (skip 5 (x .0) b))) a
+    where
+      x : Not 5 × Not 6 × Not 8
+      x = no-admit (call .asked) refl (others-name (call .asked) t i .1)
+
+      not-there : (n : ℕ) → Row c call 7 n → OnTheCard (c .vcpus) t → ⊥
+      not-there n r k =
+          let p = of-7 n r in
+          p .3 (subst (λ (x : ℕ). OnTheCard (c .vcpus) x) (same (tunnelOf (call .asked)) t (p .0) (others-name (call .asked) t i .0) (p .1)) k)
+
+  asks : (o : Option Refusal) (a : Change) → call .asked ≡ a → callRows (c .vcpus) a ≡ o → Above 4 → Says o
+  asks o (admit d) e = admitting o d e
+  asks o (wake t) e = naming o t (inl e)
+  asks o (block t) e = naming o t (inr (inl e))
+  asks o (remove t) e = naming o t (inr (inr e))
+  asks o tick e = λ w a. subst Says w (bottom (skip 8 (x .2) (skip 7 (λ d r. nothing (of-7 d r .1)) (skip 6 (x .1) (skip 5 (x .0) (skip 4 (λ d r. nothing (of-4 d r .1)) a))))))
+    where
+      x : Not 5 × Not 6 × Not 8
+      x = no-admit tick e refl
+
+      nothing : {t : ℕ} → tunnelOf (call .asked) ≡ some t → ⊥
+      nothing f = no-some (ap tunnelOf (sym e) ∙ f)
+
+  -- the rows as the rules have them say what the table says
+  says : (o : Option Refusal) → refusal c (call .now) (call .asked) ≡ o → Says o
+  unfolding refusal
+  says o w =
+      step o (aboveLargest (call .now)) 1 0 _ w (λ f. row-1 (omega (arith, tests))) (λ f d r. omega (arith, tests, of-1 d r))
+      (λ w. step o (belowLast (c .last) (call .now)) 2 0 _ w (λ f. row-2 (omega (arith, tests))) (λ f d r. omega (arith, tests, of-2 d r))
+      (λ w. late o (c .timer) refl (callRows (c .vcpus) (call .asked)) w (asks o (call .asked) refl))) top
+
+  one-detail : (n d e : ℕ) → Row c call n d → Row c call n e → d ≡ e
+  one-detail n d e (row-1 h) (row-1 k) = refl
+  one-detail n d e (row-2 h) (row-2 k) = refl
+  one-detail n d e (row-3 t f h) (row-3 u g k) = same (c .timer) t u f g
+  one-detail n d e (row-4 t f h) (row-4 u g k) = refl
+  one-detail n d e (row-5 t f h) (row-5 u g k) = refl
+  one-detail n d e (row-6 t f h) (row-6 u g k) = refl
+  one-detail n d e (row-7 t f h) (row-7 u g k) = refl
+  one-detail n d e (row-8 t f h) (row-8 u g k) = refl
+
+  -- of two that are first neither is above the other
+  one-first : (n d m e : ℕ) → First c call n d → First c call m e → (n ≡ m) × (d ≡ e)
+  one-first n d m e f g =
+      let q : n ≡ m = omega (arith, tests, below (ltb n m) refl, above (ltb m n) refl) in
+      (q, one-detail m d e (subst (λ (k : ℕ). Row c call k d) q (f .applies)) (g .applies))
+    where
+      below : (b : Bool) → ltb n m ≡ b → m ≤ n
+      below true h = absurd (g .none-above n d (omega (arith, tests)) (f .applies))
+      below false h = omega (arith, tests)
+
+      above : (b : Bool) → ltb m n ≡ b → n ≤ m
+      above true h = absurd (f .none-above m e (omega (arith, tests)) (g .applies))
+      above false h = omega (arith, tests)
+
+  given : (n d : ℕ) → First c call n d → refusal c (call .now) (call .asked) ≡ some (record { number = n; detail = d })
+  given n d f = go (refusal c (call .now) (call .asked)) refl
+    where
+      go : (o : Option Refusal) → refusal c (call .now) (call .asked) ≡ o → refusal c (call .now) (call .asked) ≡ some (record { number = n; detail = d })
+      go none e = absurd (says none e n d (f .applies))
+      go (some r) e =
+          let p = one-first (r .number) (r .detail) n d (says (some r) e) f in
+          e ∙ ap some (ap (λ (k : ℕ). record { number = k; detail = r .detail }) (p .0) ∙ ap (λ (k : ℕ). record { number = n; detail = k }) (p .1))
+
+  pub not-given : NoRow c call → refusal c (call .now) (call .asked) ≡ none
+  not-given h = go (refusal c (call .now) (call .asked)) refl
+    where
+      go : (o : Option Refusal) → refusal c (call .now) (call .asked) ≡ o → refusal c (call .now) (call .asked) ≡ none
+      go none e = e
+      go (some r) e = absurd (h (r .number) (r .detail) (says (some r) e .applies))
+
+  pub table : Table c call
+  unfolding turn
+  table =
+      record {
+        refuses = λ n d. (reads (refusal c (call .now) (call .asked)) (says _ refl) n d, λ f. ap (λ (o : Option Refusal). answered c call o .reply) (given n d f));
+        hands-back = back (refusal c (call .now) (call .asked));
+        accepts = (passes (refusal c (call .now) (call .asked)) (says _ refl), λ h. ap (λ (o : Option Refusal). answered c call o .reply) (not-given h));
+      }
+    where
+      reads : (o : Option Refusal) → Says o → (n d : ℕ) → answered c call o .reply ≡ refused (record { number = n; detail = d }) → First c call n d
+      reads none s n d e = let z : _≡_ {A = ℕ} 0 1 = cc in absurd (omega arith)
+      reads (some r) s n d e =
+          let q : r ≡ record { number = n; detail = d } = cc in
+          subst (λ (x : Refusal). First c call (x .number) (x .detail)) q s
+
+      back : (o : Option Refusal) (r : Refusal) → answered c call o .reply ≡ refused r → answered c call o .card ≡ c
+      back none r e = let z : _≡_ {A = ℕ} 0 1 = cc in absurd (omega arith)
+      back (some q) r e = refl
+
+      passes : (o : Option Refusal) → Says o → answered c call o .reply ≡ ok (report (accepted c call)) → NoRow c call
+      passes none s e = s
+      passes (some r) s e = let z : _≡_ {A = ℕ} 0 1 = cc in absurd (omega arith)

@@ -1,0 +1,59 @@
+-- Document 01, "Reply numbers", rows 1 to 8, as plain facts: where each applies, and that the first from the top that does is given.
+-- Proved of every card and every call in proofs/Rows. Assumes nothing.
+use Prim.Native.Nat.{ℕ, _≤_, _<_}
+use mathlib.Core.Path.{_≡_}
+use mathlib.Core.Logic.{_⊎_, _↔_}
+use mathlib.Core.Option.{some}
+use lib.ListN.{length}
+use Rattle.rules.specs.Limits.{largestTime, largestTunnel, largestPeriod, mostVcpus}
+use Rattle.rules.specs.Vcpu.{Description}
+use Rattle.rules.specs.Card.{Card}
+use Rattle.rules.specs.Change.{Change, admit, wake, block, remove}
+use Rattle.rules.specs.Refuse.{Refusal}
+use Rattle.rules.specs.Turn.{Call, ok, refused, turn, accepted, report}
+use Rattle.rules.specs.Meaning.{OnTheCard}
+
+-- an admit of this identifier
+abbrev pub AdmitOf : Change → ℕ → Type 0
+AdmitOf asked tunnel = (d : Description) × (asked ≡ admit d) × (d .tunnel ≡ tunnel)
+
+abbrev pub WakeBlockRemoveOf : Change → ℕ → Type 0
+WakeBlockRemoveOf asked tunnel = (asked ≡ wake tunnel) ⊎ (asked ≡ block tunnel) ⊎ (asked ≡ remove tunnel)
+
+abbrev pub OutOfRange : ℕ → ℕ → ℕ → Type 0
+OutOfRange low high n = (n < low) ⊎ (high < n)
+
+-- the row with this number applies, and has this detail
+pub data Row (c : Card) (call : Call) : ℕ → ℕ → Type 0 where
+  -- "time above the largest"
+  row-1 : largestTime < call .now → Row c call 1 0
+  -- "time below `last`"
+  row-2 : call .now < c .last → Row c call 2 0
+  -- "there is a timer and the time is later than it"; the detail is the timer
+  row-3 : (t : ℕ) → c .timer ≡ some t → t < call .now → Row c call 3 t
+  -- "identifier above 24 bits"
+  row-4 : (tunnel : ℕ) → AdmitOf (call .asked) tunnel ⊎ WakeBlockRemoveOf (call .asked) tunnel → largestTunnel < tunnel → Row c call 4 0
+  -- "admit: period or capacity out of range"
+  row-5 : (d : Description) → call .asked ≡ admit d
+      → OutOfRange 1 largestPeriod (d .period) ⊎ OutOfRange 1 (d .period) (d .capacity) → Row c call 5 0
+  -- "admit: identifier is on the card"
+  row-6 : (d : Description) → call .asked ≡ admit d → OnTheCard (c .vcpus) (d .tunnel) → Row c call 6 0
+  -- "wake, block, remove: identifier is not on the card"
+  row-7 : (tunnel : ℕ) → WakeBlockRemoveOf (call .asked) tunnel → (OnTheCard (c .vcpus) tunnel → ⊥) → Row c call 7 0
+  -- "admit: 32 VCPUs are on the card"
+  row-8 : (d : Description) → call .asked ≡ admit d → mostVcpus ≤ length (c .vcpus) → Row c call 8 0
+
+-- "the first from the top that applies is given"; rows 1 to 8 stand in the order of their numbers
+pub record First (c : Card) (call : Call) (number detail : ℕ) : Type 0 where
+  pub applies : Row c call number detail
+  pub none-above : (n d : ℕ) → n < number → Row c call n d → ⊥
+
+abbrev pub NoRow : Card → Call → Type 0
+NoRow c call = (number detail : ℕ) → Row c call number detail → ⊥
+
+-- "Given exactly when", and "the state handed back equals the state handed in"
+pub record Table (c : Card) (call : Call) : Type 0 where
+  pub refuses : (number detail : ℕ)
+      → turn c call .reply ≡ refused (record { number = number; detail = detail }) ↔ First c call number detail
+  pub hands-back : (r : Refusal) → turn c call .reply ≡ refused r → turn c call .card ≡ c
+  pub accepts : turn c call .reply ≡ ok (report (accepted c call)) ↔ NoRow c call
