@@ -14,9 +14,7 @@ use turns::Timer;
 use units::Amount;
 use units::Moment;
 use units::Tunnel;
-ghost use mathlib.Core.Path.{_≡_};
 ghost use Prim.Native.Nat.{_≤_, _<_};
-ghost use Rattle.turns.specs.State.{ValidCore};
 
 const NEVER: u64 = 18446744073709551615;
 

@@ -1,6 +1,5 @@
 -- Any two replies that the promise of a public function of `queries` allows are equal, the bytes written included (`OneReply` of crate
 -- promise). Assumes nothing.
-use Prim.Native.Nat.{ℕ}
 use mathlib.Core.Path.{_≡_, sym, _∙_}
 use native.Mathlib.Omega.{arith}
 use denote.Ref.{now}

@@ -4,19 +4,16 @@ use Prim.Native.Nat.{ℕ, zero, suc, _+_, _-_, _*_, _/_, _%_, _^_, _≤_, _<_}
 use native.Mathlib.Nat.{zero-add, pow-suc}
 use native.Mathlib.Omega.{arith}
 use mathlib.Core.Path.{_≡_, refl, ap, sym, _∙_, subst}
-use mathlib.Core.Bool.{Bool, true, false}
+use mathlib.Core.Bool.{true}
 use mathlib.Core.List.{List, [], _∷_, _++_}
-use lib.Dec.{eqb}
 use lib.ListN.{length, getD, take, drop, length-drop}
 use lib.Seq.{take-suc, take-add, drop-drop, getD-drop}
-use borrow.Author.Tests.{eqb-true, eqb-false, ne-eqb}
 use Rattle.records.specs.Record.{description}
 use Rattle.rules.specs.Change.{Change, admit, wake, block, remove, tick}
-use Rattle.rules.specs.Turn.{Call}
 use Rattle.records.specs.declared.answers.Event.{Event}
 use Rattle.records.specs.declared.answers.Read.the-variants.{Event as Got}
 use Rattle.records.specs.Bytes.{AreBytes, number, bytesOf}
-use Rattle.records.specs.Record.{event, known, payload, tag, lengthSaid, time, asked, call, reading}
+use Rattle.records.specs.Record.{known, payload, tag, lengthSaid, time, asked, call}
 use Rattle.records.specs.Answer.{eventSaid, readSpec}
 use Rattle.records.specs.Encode.{callOf, tagOf, fieldsOf, head, recordOf, sizeOf, Held, InRange}
 use Rattle.records.proofs.Tags.{Tag, is-admit, is-wake, is-block, is-remove, is-tick, tag-cases, payload-bounds, payload-admit, payload-naming, payload-tick}

@@ -2,22 +2,20 @@
 -- a payload that is short gives 20 and waits, and there more bytes do change it. Assumes nothing.
 use Prim.Native.Nat.{ℕ, zero, suc, _+_, _≤_, _<_}
 use native.Mathlib.Omega.{arith}
-use mathlib.Core.Path.{_≡_, refl, ap, sym, _∙_, subst}
-use mathlib.Core.Bool.{Bool, true, false, cond, not, _&&_, _||_}
+use mathlib.Core.Path.{_≡_, refl, ap, sym, _∙_}
+use mathlib.Core.Bool.{Bool, true, false}
 use mathlib.Core.List.{List, [], _∷_, _++_}
-use mathlib.Core.Logic.{_⊎_, inl, inr, _↔_}
-use lib.Dec.{leb, ltb, eqb}
-use lib.ListN.{length, getD, take, replicate, length-append, length-replicate, List·getD-append}
-use lib.Seq.{length-take-le, getD-take}
+use mathlib.Core.Logic.{_↔_}
+use lib.Dec.{ltb, eqb}
+use lib.ListN.{length, getD, replicate, length-append, List·getD-append}
 use borrow.Author.Tests.{ltb-true, ltb-false, eqb-true, eqb-false, lt-ltb, le-ltb, eq-eqb, ne-eqb}
-use Rattle.rules.proofs.Tests.{and-true, clash}
-use Rattle.rules.specs.Change.{Change, admit, wake, block, remove, tick}
+use Rattle.rules.proofs.Tests.{clash}
+use Rattle.rules.specs.Change.{Change, admit, wake, block, remove}
 use Rattle.rules.specs.Turn.{Call}
-use Rattle.records.specs.declared.answers.Event.{Event}
 use Rattle.records.specs.declared.answers.Read.{Read}
 use Rattle.records.specs.declared.answers.Read.the-variants.{Event as Got, No}
 use Rattle.records.specs.Bytes.{AreBytes, number}
-use Rattle.records.specs.Record.{Reading, event, no, known, payload, tag, lengthSaid, time, identifier, description, asked, call, reading, waits}
+use Rattle.records.specs.Record.{event, no, known, payload, tag, lengthSaid, time, identifier, description, asked, call, reading, waits}
 use Rattle.records.specs.Answer.{refusal, readSaid, readSpec}
 use Rattle.records.proofs.Digits.{number-append}
 use Rattle.records.proofs.Tags.{Tag, is-admit, is-wake, is-block, is-remove, is-tick, tag-cases, payload-bounds, payload-admit, payload-naming}

@@ -2,13 +2,13 @@
 -- Assumes nothing.
 use Prim.Native.Nat.{ℕ, _+_, _≤_, _<_}
 use native.Mathlib.Omega.{arith}
-use mathlib.Core.Path.{_≡_, refl, ap, sym, _∙_}
-use mathlib.Core.Bool.{Bool, true, false, cond, not}
+use mathlib.Core.Path.{_≡_, ap}
+use mathlib.Core.Bool.{true, false}
 use mathlib.Core.List.{List}
 use lib.ListN.{length}
 use borrow.Author.Tests.{lt-ltb, le-ltb, eq-eqb, ne-eqb}
 use Rattle.records.specs.Record.{Reading, event, no, known, payload, tag, lengthSaid, call, reading}
-use Rattle.records.specs.Answer.{refusal, readSaid, readSpec}
+use Rattle.records.specs.Answer.{readSaid, readSpec}
 
 module _ (s : List ℕ) where
   pub short-header : length s < 3 → reading s ≡ no 20

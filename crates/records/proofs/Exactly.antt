@@ -1,22 +1,17 @@
 -- When each answer is given: 20 exactly where reading waits, 21 for the tags that are kept, and an event with its whole record there,
 -- of as many bytes as `size` says. Assumes nothing.
-use Prim.Native.Nat.{ℕ, _+_, _≤_, _<_}
+use Prim.Native.Nat.{ℕ, _+_, _≤_}
 use native.Mathlib.Omega.{arith}
 use mathlib.Core.Path.{_≡_, refl, ap, sym, _∙_}
-use mathlib.Core.Bool.{Bool, true, false, cond}
+use mathlib.Core.Bool.{true}
 use mathlib.Core.List.{List}
 use mathlib.Core.Logic.{_⊎_, inl, inr, _↔_}
-use lib.Dec.{eqb}
 use lib.ListN.{length}
-use borrow.Author.Tests.{eqb-true, eqb-false}
-use Rattle.rules.proofs.Tests.{clash}
 use Rattle.rules.specs.Change.{Change, admit, wake, block, remove, tick}
-use Rattle.rules.specs.Turn.{Call}
 use Rattle.records.specs.declared.answers.Event.{Event}
-use Rattle.records.specs.declared.answers.Read.{Read}
-use Rattle.records.specs.declared.answers.Read.the-variants.{Event as Got, No}
-use Rattle.records.specs.Record.{Reading, event, no, known, payload, tag, lengthSaid, asked, call, reading, waits}
-use Rattle.records.specs.Answer.{eventSaid, refusal, readSaid, readSpec}
+use Rattle.records.specs.declared.answers.Read.the-variants.{Event as Got}
+use Rattle.records.specs.Record.{event, no, known, payload, tag, lengthSaid, asked, call, waits}
+use Rattle.records.specs.Answer.{eventSaid, refusal, readSpec}
 use Rattle.records.specs.Encode.{callOf, tagOf, sizeOf}
 use Rattle.records.proofs.Tags.{Tag, is-admit, is-wake, is-block, is-remove, is-tick, tag-cases, known-not}
 use Rattle.records.proofs.Cases.{short-header, unknown-tag, other-length, short-payload, whole-record, answers}

@@ -1,6 +1,6 @@
 -- Any two replies that the promise of a public function of `records` allows are equal, the bytes written included (`OneReply` of crate promise). Assumes
 -- nothing.
-use mathlib.Core.Path.{_≡_, sym, _∙_}
+use mathlib.Core.Path.{sym, _∙_}
 use denote.Ref.{now}
 use Rattle.promise.specs.OneReply.{OneReply, OneReplyAndBytes}
 use Rattle.records.proofs.reader.read.Kinds as read

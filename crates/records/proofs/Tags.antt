@@ -1,14 +1,13 @@
 -- Laws of the tags: which are known, and how long their payloads are.
 -- Assumes nothing.
-use Prim.Native.Nat.{ℕ, _≤_, _<_}
+use Prim.Native.Nat.{ℕ, _≤_}
 use native.Mathlib.Omega.{arith}
-use mathlib.Core.Path.{_≡_, refl, sym, _∙_}
-use mathlib.Core.Bool.{Bool, true, false, cond, _&&_}
+use mathlib.Core.Path.{_≡_, refl}
+use mathlib.Core.Bool.{Bool, true, false, cond}
 use lib.Dec.{leb, eqb}
-use borrow.Author.Tests.{leb-true, le-leb, lt-leb, eq-eqb, ne-eqb, eqb-true, eqb-false}
+use borrow.Author.Tests.{leb-true, le-leb, ne-eqb, eqb-true, eqb-false}
 use Rattle.rules.proofs.Tests.{and-true}
 use Rattle.records.specs.Record.{known, payload}
-use Rattle.records.specs.declared.answers.Payload.{Payload}
 use Rattle.records.specs.declared.answers.Payload.the-variants.{Bytes, Unknown}
 use Rattle.records.specs.Answer.{payloadSaid}
 

@@ -1,7 +1,7 @@
 // The table of demands: at t * 16 + i the demand of the first i + 1 tasks over the length t, for each
 // length up to the last task's period. The search reads each demand from it and divides no more.
 ghost use mathlib.Core.Path.{_≡_};
-ghost use Prim.Native.Nat.{_+_, _*_, _-_, _/_, _≤_, _<_};
+ghost use Prim.Native.Nat.{_+_, _*_, _-_, _/_, _≤_};
 ghost use lib.ListN.{length};
 ghost use Rattle.model.specs.Demand.{ceil};
 ghost use Rattle.shares.specs.Table.{Tasks, Filled, longest};

@@ -1,6 +1,6 @@
 -- Any two replies that the promise of `put_number` allows are equal, the bytes written included (`OneReplyAndBytes` of crate promise).
 -- Assumes nothing.
-use mathlib.Core.Path.{_≡_, sym, _∙_}
+use mathlib.Core.Path.{sym, _∙_}
 use denote.Ref.{now}
 use Rattle.promise.specs.OneReply.{OneReplyAndBytes}
 use Rattle.text.proofs.put_number.Kinds as put-number

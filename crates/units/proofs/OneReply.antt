@@ -1,6 +1,6 @@
 -- Any two replies that the promise of a public function of `units` allows are equal (`OneReply` of crate promise). Assumes
 -- nothing.
-use mathlib.Core.Path.{_≡_, sym, _∙_}
+use mathlib.Core.Path.{sym, _∙_}
 use Rattle.promise.specs.OneReply.{OneReply}
 use Rattle.units.proofs.Moment.new.Kinds as moment-new
 use Rattle.units.proofs.Moment.new.Reads as moment-new-promise

@@ -1,7 +1,7 @@
 // Moments in time, amounts of ticks and tunnel identifiers, kept apart: three types whose numbers are private.
 // Each is made from any number, read out and compared; the only arithmetic offered is a moment plus an amount.
 ghost use mathlib.Core.Path.{_≡_};
-ghost use lib.Dec.{leb, ltb, eqb};
+ghost use lib.Dec.{ltb, eqb};
 ghost use Rattle.units.specs.Units.{moment, amount, tunnel, later};
 
 // The largest number that a moment holds; a sum that would pass it is held to it.

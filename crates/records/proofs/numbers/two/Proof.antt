@@ -3,9 +3,6 @@ use native.Mathlib.Omega.{arith}
 use borrow.Author.Needs.{needs}
 use Rattle.records.proofs.numbers.two.Statement.{statement}
 use Rattle.records.proofs.numbers.two.Tie as tie
-use Rattle.records.proofs.numbers.two.Reads as reads
-use Rattle.records.proofs.numbers.two.Lts as lts
-use Rattle.records.proofs.numbers.wide.Reads as wide-reads
 
 wide-requires : tie.Need-wide-requires
 wide-requires c κs = search needs

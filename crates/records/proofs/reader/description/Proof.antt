@@ -2,13 +2,6 @@
 use borrow.Author.Needs.{needs}
 use Rattle.records.proofs.reader.description.Statement.{statement}
 use Rattle.records.proofs.reader.description.Tie as tie
-use Rattle.records.proofs.reader.description.Reads as reads
-use Rattle.records.proofs.reader.description.Lts as lts
-use Rattle.records.proofs.reader.capacity.Reads as capacity-reads
-use Rattle.records.proofs.reader.identifier.Reads as identifier-reads
-use Rattle.records.proofs.reader.period.Reads as period-reads
-use Rattle.units.proofs.Amount.new.Reads as Amount-new-reads
-use Rattle.units.proofs.Tunnel.new.Reads as Tunnel-new-reads
 
 identifier-requires : tie.Need-identifier-requires
 identifier-requires c κs = search needs

@@ -1,21 +1,12 @@
 -- `records::reader::event` meets its contract: the event of each known tag; that the bytes reach follows from the tag's payload. Assumes nothing.
 use borrow.Author.Needs.{needs}
 use native.Mathlib.Omega.{arith}
-use mathlib.Core.Path.{_≡_, refl, ap, sym, _∙_, subst}
-use Prim.Native.Nat.{ℕ, _+_, _≤_}
-use borrow.Author.Tests.{eq-eqb, ne-eqb}
-use Rattle.records.specs.Record.{known, payload, call}
-use Rattle.records.specs.Answer.{eventSaid}
-use Rattle.records.proofs.Tags.{known-range, payload-bounds, payload-admit, payload-tick, payload-naming}
+use mathlib.Core.Path.{sym}
+use borrow.Author.Tests.{ne-eqb}
+use Rattle.records.specs.Record.{call}
+use Rattle.records.proofs.Tags.{payload-bounds, payload-admit, payload-naming}
 use Rattle.records.proofs.reader.event.Statement.{statement}
 use Rattle.records.proofs.reader.event.Tie as tie
-use Rattle.records.proofs.reader.event.Reads as reads
-use Rattle.records.proofs.reader.event.Lts as lts
-use Rattle.records.proofs.reader.description.Reads as description-reads
-use Rattle.records.proofs.reader.identifier.Reads as identifier-reads
-use Rattle.records.proofs.reader.time.Reads as time-reads
-use Rattle.units.proofs.Moment.new.Reads as Moment-new-reads
-use Rattle.units.proofs.Tunnel.new.Reads as Tunnel-new-reads
 
 time-requires : tie.Need-time-requires
 time-requires c κs = omega (arith, payload-bounds (c .before .args .tag), c .before .pre .2)

@@ -4,8 +4,6 @@ use mathlib.Core.Path.{_≡_}
 use Rattle.records.proofs.Tags.{said-known, said-unknown, payload-admit, payload-tick, payload-naming}
 use Rattle.records.proofs.reader.payload.Statement.{statement}
 use Rattle.records.proofs.reader.payload.Tie as tie
-use Rattle.records.proofs.reader.payload.Reads as reads
-use Rattle.records.proofs.reader.payload.Lts as lts
 
 returns : tie.Need-returns
 returns c = said-unknown (c .before .args .tag) (λ a b. omega arith)

@@ -1,22 +1,16 @@
 -- `records::reader::read` meets its contract: each return cites its case of reading. Assumes nothing.
 use borrow.Author.Needs.{needs}
 use native.Mathlib.Omega.{arith}
-use mathlib.Core.Path.{_≡_, refl, ap, sym, _∙_, subst}
-use mathlib.Core.Bool.{true, false}
+use mathlib.Core.Path.{_≡_, refl, ap, sym, _∙_}
+use mathlib.Core.Bool.{true}
 use mathlib.Core.List.{List}
-use Prim.Native.Nat.{ℕ, _+_, _≤_}
+use Prim.Native.Nat.{ℕ}
 use Rattle.records.specs.Record.{known, payload, tag, call, event, no}
 use Rattle.records.specs.declared.answers.Read.the-variants.{Event as Got}
 use Rattle.records.proofs.Tags.{bytes-said, none-said}
 use Rattle.records.proofs.Cases.{short-header, unknown-tag, other-length, short-payload, whole-record, answers}
 use Rattle.records.proofs.reader.read.Statement.{statement}
 use Rattle.records.proofs.reader.read.Tie as tie
-use Rattle.records.proofs.reader.read.Reads as reads
-use Rattle.records.proofs.reader.read.Lts as lts
-use Rattle.records.proofs.numbers.two.Reads as two-reads
-use Rattle.records.proofs.reader.event.Reads as event-reads
-use Rattle.records.proofs.reader.no.Reads as no-reads
-use Rattle.records.proofs.reader.payload.Reads as payload-reads
 
 no-requires : tie.Need-no-requires
 no-requires c κs = search needs

@@ -2,9 +2,6 @@
 use borrow.Author.Needs.{needs}
 use Rattle.records.proofs.writer.fits.Statement.{statement}
 use Rattle.records.proofs.writer.fits.Tie as tie
-use Rattle.records.proofs.writer.fits.Reads as reads
-use Rattle.records.proofs.writer.fits.Lts as lts
-use Rattle.records.proofs.writer.short.Reads as short-reads
 
 enum-known-event : tie.Need-enum-known-event
 enum-known-event c = search needs

@@ -1,17 +1,15 @@
 -- `records::writer::put` meets its contract. The loop's invariant: laying the bytes that are left over `out` as it is now gives what is
 -- promised. The measure is how many are left. Assumes nothing.
 use borrow.Author.Needs.{needs}
-use Prim.Native.Nat.{ℕ, _+_, _≤_}
+use Prim.Native.Nat.{_≤_}
 use native.Mathlib.Omega.{arith}
-use mathlib.Core.Path.{_≡_, refl, ap, sym, _∙_, subst}
+use mathlib.Core.Path.{_≡_, refl, _∙_}
 use lib.ListN.{length, length-set}
 use Rattle.records.specs.Bytes.{bytesOf}
 use Rattle.records.specs.Encode.{laid}
 use Rattle.records.proofs.Laid.{laid-last, laid-done}
 use Rattle.records.proofs.writer.put.Statement.{statement}
 use Rattle.records.proofs.writer.put.Tie as tie
-use Rattle.records.proofs.writer.put.Reads as reads
-use Rattle.records.proofs.writer.put.Lts as lts
 
 abbrev Inv-loop : tie.InvT-loop
 Inv-loop out₀ at width number left₀ rest₀ out left rest =

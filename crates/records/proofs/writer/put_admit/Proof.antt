@@ -1,21 +1,15 @@
 -- `records::writer::put_admit` meets its contract: the four fields are laid behind the head, one behind the other. Assumes nothing.
 use borrow.Author.Needs.{needs}
-use Prim.Native.Nat.{ℕ, _+_, _≤_}
+use Prim.Native.Nat.{ℕ, _+_}
 use native.Mathlib.Omega.{arith}
-use mathlib.Core.Path.{_≡_, refl, ap, sym, _∙_}
-use mathlib.Core.List.{List, [], _∷_, _++_}
+use mathlib.Core.Path.{_≡_, refl}
+use mathlib.Core.List.{List, _++_}
 use Rattle.turns.specs.declared.Description.{Description}
 use Rattle.records.specs.Bytes.{bytesOf}
 use Rattle.records.specs.Encode.{head, laid}
 use Rattle.records.proofs.Laid.{laid-field}
 use Rattle.records.proofs.writer.put_admit.Statement.{statement}
 use Rattle.records.proofs.writer.put_admit.Tie as tie
-use Rattle.records.proofs.writer.put_admit.Reads as reads
-use Rattle.records.proofs.writer.put_admit.Lts as lts
-use Rattle.records.proofs.writer.put.Reads as put-reads
-use Rattle.records.proofs.writer.put_head.Reads as put-head-reads
-use Rattle.units.proofs.Amount.ticks.Reads as ticks-reads
-use Rattle.units.proofs.Tunnel.number.Reads as number-reads
 
 put-head-requires : tie.Need-put-head-requires
 put-head-requires c κs = search needs

@@ -1,18 +1,14 @@
 -- `records::writer::put_head` meets its contract: tag, length and time are laid one behind the other. Assumes nothing.
 use borrow.Author.Needs.{needs}
-use Prim.Native.Nat.{ℕ, _+_, _≤_}
+use Prim.Native.Nat.{ℕ, _+_}
 use native.Mathlib.Omega.{arith}
-use mathlib.Core.Path.{_≡_, refl, ap, sym, _∙_}
-use mathlib.Core.List.{List, [], _∷_, _++_}
+use mathlib.Core.Path.{_≡_, refl}
+use mathlib.Core.List.{List, _++_}
 use Rattle.records.specs.Bytes.{bytesOf}
 use Rattle.records.specs.Encode.{head, laid}
 use Rattle.records.proofs.Laid.{laid-field}
 use Rattle.records.proofs.writer.put_head.Statement.{statement}
 use Rattle.records.proofs.writer.put_head.Tie as tie
-use Rattle.records.proofs.writer.put_head.Reads as reads
-use Rattle.records.proofs.writer.put_head.Lts as lts
-use Rattle.records.proofs.writer.put.Reads as put-reads
-use Rattle.units.proofs.Moment.ticks.Reads as ticks-reads
 
 put-requires : tie.Need-put-requires
 put-requires c κs = search needs

@@ -1,19 +1,13 @@
 -- `records::writer::put_naming` meets its contract: the identifier is laid behind the head. Assumes nothing.
 use borrow.Author.Needs.{needs}
-use Prim.Native.Nat.{ℕ, _+_, _≤_}
+use Prim.Native.Nat.{ℕ}
 use native.Mathlib.Omega.{arith}
-use mathlib.Core.Path.{_≡_, refl, ap, sym, _∙_}
-use mathlib.Core.List.{List, [], _∷_, _++_}
-use Rattle.records.specs.Bytes.{bytesOf}
-use Rattle.records.specs.Encode.{head, laid}
+use mathlib.Core.Path.{refl}
+use mathlib.Core.List.{List}
+use Rattle.records.specs.Encode.{head}
 use Rattle.records.proofs.Laid.{laid-field}
 use Rattle.records.proofs.writer.put_naming.Statement.{statement}
 use Rattle.records.proofs.writer.put_naming.Tie as tie
-use Rattle.records.proofs.writer.put_naming.Reads as reads
-use Rattle.records.proofs.writer.put_naming.Lts as lts
-use Rattle.records.proofs.writer.put.Reads as put-reads
-use Rattle.records.proofs.writer.put_head.Reads as put-head-reads
-use Rattle.units.proofs.Tunnel.number.Reads as number-reads
 
 put-head-requires : tie.Need-put-head-requires
 put-head-requires c κs = search needs

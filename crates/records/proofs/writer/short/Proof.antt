@@ -2,9 +2,6 @@
 use borrow.Author.Needs.{needs}
 use Rattle.records.proofs.writer.short.Statement.{statement}
 use Rattle.records.proofs.writer.short.Tie as tie
-use Rattle.records.proofs.writer.short.Reads as reads
-use Rattle.records.proofs.writer.short.Lts as lts
-use Rattle.units.proofs.Tunnel.number.Reads as number-reads
 
 number-requires : tie.Need-number-requires
 number-requires c κs = search needs

@@ -4,8 +4,6 @@ use Rattle.records.specs.Encode.{sizeOf}
 use borrow.Author.Needs.{needs}
 use Rattle.records.proofs.writer.size.Statement.{statement}
 use Rattle.records.proofs.writer.size.Tie as tie
-use Rattle.records.proofs.writer.size.Reads as reads
-use Rattle.records.proofs.writer.size.Lts as lts
 
 enum-told : tie.Need-enum-told
 enum-told c = search needs

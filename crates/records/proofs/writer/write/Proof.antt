@@ -1,22 +1,14 @@
 -- `records::writer::write` meets its contract: nothing where the identifier is too wide or the room too small, else the record at the
 -- front, by the case of the event. Assumes nothing.
 use borrow.Author.Needs.{needs}
-use Prim.Native.Nat.{ℕ, _+_, _≤_}
 use native.Mathlib.Omega.{arith}
-use mathlib.Core.Path.{_≡_, refl, ap, sym, _∙_, subst}
+use mathlib.Core.Path.{_≡_, sym, _∙_}
 use borrow.Author.Tests.{not-true, not-false}
 use Rattle.records.specs.Record.{payload}
 use Rattle.records.specs.Encode.{head, recordOf, sizeOf}
 use Rattle.records.proofs.Written.{kept, too-wide, no-room, it-goes, put-whole}
 use Rattle.records.proofs.writer.write.Statement.{statement}
 use Rattle.records.proofs.writer.write.Tie as tie
-use Rattle.records.proofs.writer.write.Reads as reads
-use Rattle.records.proofs.writer.write.Lts as lts
-use Rattle.records.proofs.writer.fits.Reads as fits-reads
-use Rattle.records.proofs.writer.put_admit.Reads as put-admit-reads
-use Rattle.records.proofs.writer.put_head.Reads as put-head-reads
-use Rattle.records.proofs.writer.put_naming.Reads as put-naming-reads
-use Rattle.records.proofs.writer.size.Reads as size-reads
 
 size-requires : tie.Need-size-requires
 size-requires c κs = search needs

@@ -8,57 +8,44 @@ use native.Mathlib.Nat.{le-refl}
 use native.Mathlib.Omega.{arith}
 use Rattle.shares.proofs.curve.supplied.Statement.{statement}
 use Rattle.shares.proofs.curve.supplied.Tie as tie
-use Rattle.shares.proofs.curve.supplied.Reads as reads
-use Rattle.shares.proofs.curve.supplied.Lts as lts
 
--- src/curve.rt:10:13
 sub-g : tie.Need-sub-g
 sub-g c = search needs
 
--- src/curve.rt:12:9
 returns : tie.Need-returns
 returns c =
     let a = c .before .args in sym (supply-short (a .p) (a .b) (a .t) (c .if1 .taken))
 
--- src/curve.rt:14:13
 div-y : tie.Need-div-y
 div-y c = search needs
 
--- src/curve.rt:15:16
 mul-lost : tie.Need-mul-lost
 mul-lost c = search needs
 
--- src/curve.rt:15:24
 mul-lost-2 : tie.Need-mul-lost-2
 mul-lost-2 c =
     let a = c .before .args in record { fits = omega (arith, whole-most (a .t) (a .p) (a .p) (a .p - a .b) (le-refl (a .p))) }
 
--- src/curve.rt:15:16
 add-lost : tie.Need-add-lost
 add-lost c =
     let a = c .before .args in record { fits = omega (arith, whole-most (a .t) (a .p) (a .p) (a .p - a .b) (le-refl (a .p))) }
 
--- src/curve.rt:16:19
 mul-result : tie.Need-mul-result
 mul-result c =
     let a = c .before .before .args in record { fits = omega (arith, whole-most (a .t) (a .p) (a .b) (a .p - a .b) (c .before .before .pre .1)) }
 
--- src/curve.rt:16:34
 mul-result-2 : tie.Need-mul-result-2
 mul-result-2 c =
     let a = c .before .before .args in record { fits = omega (arith, whole-most (a .t) (a .p) (a .b) (a .p - a .b) (c .before .before .pre .1)) }
 
--- src/curve.rt:16:34
 add-result : tie.Need-add-result
 add-result c =
     let a = c .before .before .args in record { fits = omega (arith, whole-most (a .t) (a .p) (a .b) (a .p - a .b) (c .before .before .pre .1)) }
 
--- src/curve.rt:6:1
 returns-2 : tie.Need-returns-2
 returns-2 c =
     let a = c .before .before .args in omega (arith, supply-long (a .p) (a .b) (a .t) (c .before .if1 .left))
 
--- src/curve.rt:6:1
 returns-3 : tie.Need-returns-3
 returns-3 c =
     let a = c .before .before .args in omega (arith, supply-long (a .p) (a .b) (a .t) (c .before .if1 .left))

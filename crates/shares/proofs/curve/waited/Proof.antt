@@ -3,7 +3,7 @@ use borrow.Author.Needs.{needs}
 use Rattle.shares.proofs.Bounds.{reach-most}
 use native.Mathlib.Nat.{div-le-self}
 use native.Mathlib.Omega.{arith}
-use mathlib.Core.Path.{_≡_, refl, sym, _∙_, ap, subst}
+use mathlib.Core.Path.{refl}
 use Prim.Native.Nat.{_-_}
 use Rattle.shares.proofs.curve.waited.Statement.{statement}
 use Rattle.shares.proofs.curve.waited.Tie as tie

@@ -4,8 +4,8 @@ use Rattle.shares.proofs.LeapLaws.{leaps-none}
 use Rattle.shares.specs.Table.{Leaps}
 use lib.ListN.{length}
 use native.Mathlib.Omega.{arith}
-use mathlib.Core.Path.{_≡_, refl, sym, _∙_, ap, subst}
-use Prim.Native.Nat.{ℕ, suc, _+_, _*_, _-_, _≤_, _<_}
+use mathlib.Core.Path.{_≡_, subst}
+use Prim.Native.Nat.{ℕ, _*_, _-_, _≤_}
 use Rattle.shares.proofs.leaps.fill_leaps.Statement.{statement}
 use Rattle.shares.proofs.leaps.fill_leaps.Tie as tie
 

@@ -1,11 +1,11 @@
 -- `fill_none` enters 2001 for the ticks that no length has to spare. The invariant: what is entered is right. Assumes nothing.
 use borrow.Author.Needs.{needs}
 use Rattle.shares.proofs.LeapLaws.{leaps-more, none-more-spare, none-beyond}
-use Rattle.shares.specs.Table.{Leaps, Entering}
-use lib.ListN.{length, getD}
+use Rattle.shares.specs.Table.{Leaps}
+use lib.ListN.{getD}
 use native.Mathlib.Omega.{arith}
-use mathlib.Core.Path.{_≡_, refl, sym, _∙_, ap, subst}
-use Prim.Native.Nat.{ℕ, suc, _+_, _*_, _-_, _≤_, _<_}
+use mathlib.Core.Path.{_≡_, subst}
+use Prim.Native.Nat.{ℕ, _+_, _*_, _-_, _≤_, _<_}
 use Rattle.shares.proofs.leaps.fill_none.Statement.{statement}
 use Rattle.shares.proofs.leaps.fill_none.Tie as tie
 

@@ -1,11 +1,10 @@
 -- `leap` is the leap of specs/Table.antt. Assumes nothing.
 use borrow.Author.Needs.{needs}
 use Rattle.shares.proofs.LeapLaws.{leap-far, leap-near}
-use lib.ListN.{getD}
 use native.Mathlib.Nat.{max-eq-left, max-eq-right}
 use native.Mathlib.Omega.{arith}
-use mathlib.Core.Path.{_≡_, refl, sym, _∙_, ap, subst}
-use Prim.Native.Nat.{ℕ, suc, _+_, _*_, _-_, _≤_, _<_}
+use mathlib.Core.Path.{sym, _∙_}
+use Prim.Native.Nat.{_-_}
 use Rattle.shares.proofs.leaps.leap.Statement.{statement}
 use Rattle.shares.proofs.leaps.leap.Tie as tie
 

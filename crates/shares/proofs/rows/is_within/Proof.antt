@@ -1,5 +1,4 @@
 -- `is_within` is the test of model's specs/Rows.antt. Assumes nothing.
-use borrow.Author.Needs.{needs}
 use borrow.Author.Tests.{le-leb, lt-leb}
 use Rattle.shares.proofs.rows.is_within.Statement.{statement}
 use Rattle.shares.proofs.rows.is_within.Tie as tie

@@ -2,8 +2,6 @@
 use borrow.Author.Needs.{needs}
 use Rattle.shares.proofs.RowLaws.{row-empty, row-many, row-unpaired, row-range, row-fall, row-none}
 use native.Mathlib.Omega.{arith}
-use Prim.Native.Nat.{ℕ, _≤_, _<_}
-use mathlib.Core.Path.{_≡_, refl, sym, _∙_, subst}
 use Rattle.shares.proofs.rows.tasks_row.Statement.{statement}
 use Rattle.shares.proofs.rows.tasks_row.Tie as tie
 

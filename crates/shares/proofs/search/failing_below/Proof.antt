@@ -2,8 +2,8 @@
 use borrow.Author.Needs.{needs}
 use Rattle.shares.proofs.Budgets.{fails-below, one-fails}
 use native.Mathlib.Omega.{arith}
-use mathlib.Core.Path.{_≡_, refl, sym, _∙_, ap, subst}
-use Prim.Native.Nat.{ℕ, suc, _+_, _*_, _-_, _≤_, _<_}
+use mathlib.Core.Path.{sym, _∙_}
+use Prim.Native.Nat.{_-_, _≤_}
 use Rattle.shares.proofs.search.failing_below.Statement.{statement}
 use Rattle.shares.proofs.search.failing_below.Tie as tie
 

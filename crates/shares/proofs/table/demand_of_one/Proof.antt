@@ -5,26 +5,19 @@ use Rattle.shares.proofs.DemandCurve.{one-most}
 use native.Mathlib.Omega.{arith}
 use Rattle.shares.proofs.table.demand_of_one.Statement.{statement}
 use Rattle.shares.proofs.table.demand_of_one.Tie as tie
-use Rattle.shares.proofs.table.demand_of_one.Reads as reads
-use Rattle.shares.proofs.table.demand_of_one.Lts as lts
 
--- src/table.rt:16:11
 sub-result : tie.Need-sub-result
 sub-result c = search needs
 
--- src/table.rt:16:6
 add-result : tie.Need-add-result
 add-result c = search needs
 
--- src/table.rt:16:5
 div-result : tie.Need-div-result
 div-result c = search needs
 
--- src/table.rt:16:5
 mul-result : tie.Need-mul-result
 mul-result c = record { fits = omega (arith, one-most (c .args .p) (c .args .e) (c .args .t) (c .pre .2)) }
 
--- src/table.rt:12:1
 returns : tie.Need-returns
 returns c = (refl, omega (arith, one-most (c .args .p) (c .args .e) (c .args .t) (c .pre .2)))
 

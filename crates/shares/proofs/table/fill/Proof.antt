@@ -3,10 +3,9 @@ use borrow.Author.Needs.{needs}
 use Rattle.shares.proofs.TableLaws.{cells-none}
 use Rattle.shares.proofs.DemandCurve.{longest-most}
 use Rattle.shares.specs.Table.{Filled, longest}
-use lib.ListN.{length}
 use native.Mathlib.Omega.{arith}
-use mathlib.Core.Path.{_≡_, refl, sym, _∙_, ap, subst}
-use Prim.Native.Nat.{ℕ, suc, _+_, _*_, _-_, _≤_, _<_}
+use mathlib.Core.Path.{_≡_, subst}
+use Prim.Native.Nat.{ℕ, _+_, _*_, _-_, _≤_}
 use Rattle.shares.proofs.table.fill.Statement.{statement}
 use Rattle.shares.proofs.table.fill.Tie as tie
 
