@@ -17,21 +17,21 @@ use Rattle.rules.specs.Charge.{toLast, waiting, joins, posted, charged}
 use Rattle.rules.proofs.Tests.{clash, and-true}
 use Rattle.turns.specs.declared.Vcpu.{Vcpu}
 use Rattle.turns.specs.Laid.{laid}
-use Rattle.turns.specs.State.{never, dueOf, amountOf, written}
+use Rattle.turns.specs.Written.{never, dueOf, amountOf, written}
 use Rattle.turns.specs.Steps.{queueAs, usedAs, joinsOf, joinedOf, foldedOf, appendedOf, postedOf, chargedOf}
 use Rattle.turns.proofs.Laid.{laid-get, laid-set, laid-end}
 
-abbrev pub noEntry : Entry
+abbrev noEntry : Entry
 noEntry = record { due = 0; amount = 0 }
 
-pub last-set : (f : Entry → Entry) (q : List Entry) → 0 < length q → toLast f q ≡ set q (length q - 1) (f (getD q (length q - 1) noEntry))
+last-set : (f : Entry → Entry) (q : List Entry) → 0 < length q → toLast f q ≡ set q (length q - 1) (f (getD q (length q - 1) noEntry))
 last-set f [] h = absurd (omega arith)
 last-set f (e ∷ []) h = refl
 last-set f (e ∷ g ∷ q) h =
     let n : length (e ∷ g ∷ q) - 1 ≡ suc (length (g ∷ q) - 1) = omega arith in
     rw n (ap (λ (r : List Entry). e ∷ r) (last-set f (g ∷ q) (omega arith)))
 
-pub last-length : (f : Entry → Entry) (q : List Entry) → length (toLast f q) ≡ length q
+last-length : (f : Entry → Entry) (q : List Entry) → length (toLast f q) ≡ length q
 last-length f [] = refl
 last-length f (e ∷ []) = refl
 last-length f (e ∷ g ∷ q) = ap suc (last-length f (g ∷ q))
@@ -57,7 +57,7 @@ joins-same last v = go (v .pending) (eqb (v .ended) last)
     go (e ∷ q) true = rw (lt-ltb 0 (suc (length q)) (omega arith))
     go (e ∷ q) false = rw (lt-ltb 0 (suc (length q)) (omega arith))
 
-pub waits-some : (q : List Entry) → waiting q ≡ true → 0 < length q
+waits-some : (q : List Entry) → waiting q ≡ true → 0 < length q
 waits-some [] e = clash (sym e)
 waits-some (x ∷ q) e = omega arith
 

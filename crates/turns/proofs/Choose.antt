@@ -2,7 +2,7 @@
 -- earliest return of those more urgent: what the scan finds is what the rules choose. Assumes nothing.
 use Prim.Native.Nat.{ℕ, suc, _+_, _≤_, min}
 use mathlib.Core.Path.{_≡_, refl, ap, sym, _∙_, subst}
-use mathlib.Core.Bool.{Bool, true, false, cond, not, _&&_}
+use mathlib.Core.Bool.{Bool, true, false, cond, _&&_}
 use mathlib.Core.List.{List, [], _∷_, _++_, map}
 use mathlib.Core.Option.{Option, none, some}
 use native.Mathlib.Omega.{arith}
@@ -19,12 +19,14 @@ use Rattle.rules.proofs.Tests.{no-some, and-right}
 use Rattle.rules.proofs.Urgency.{irreflexive, asymmetric}
 use Rattle.turns.specs.declared.Vcpu.{Vcpu}
 use Rattle.turns.specs.declared.Pick.{Pick}
-use Rattle.turns.specs.State.{never, idle, written, place, timerOf, Rising, Ranked, Distinct, termsOf}
+use Rattle.turns.specs.Written.{never, idle, written, place, timerOf}
+use Rattle.rules.specs.Meaning.{Sorted}
+use Rattle.turns.proofs.Invariant.{Ranked, Distinct, termsOf}
 use Rattle.turns.specs.Steps.{pickedOf, picks, readyOf}
 use Rattle.turns.proofs.Return.{front, head-written}
 
 -- the earliest of some times, all of them below the time above all
-pub early-cons : (t : ℕ) (ts : List ℕ) → t ≤ never → timerOf (earliest (t ∷ ts)) ≡ min t (timerOf (earliest ts))
+early-cons : (t : ℕ) (ts : List ℕ) → t ≤ never → timerOf (earliest (t ∷ ts)) ≡ min t (timerOf (earliest ts))
 early-cons t ts h = go (earliest ts)
   where
     go : (o : Option ℕ) → earlier t o ≡ min t (timerOf o)
@@ -49,17 +51,17 @@ front-above : (m : ℕ) (q : List Entry) → m ≤ never → All (λ e. m ≤ e 
 front-above m [] l h = l
 front-above m (e ∷ q) l h = h .0
 
-early-front : (q : List Entry) → Rising q → All (λ e. e .due ≤ never) q → timerOf (earliest (map (λ e. e .due) q)) ≡ front q
+early-front : (q : List Entry) → Sorted q → All (λ e. e .due ≤ never) q → timerOf (earliest (map (λ e. e .due) q)) ≡ front q
 early-front [] r h = refl
 early-front (e ∷ q) r h =
     omega (arith, early-cons (e .due) (map (λ f. f .due) q) (h .0), early-front q (r .1) (h .1), front-above (e .due) q (h .0) (r .0))
 
 -- what the scan asks of a tenant's queue
 pub record Calm (v : Tenant) : Type 0 where
-  pub rising : Rising (v .pending)
+  pub sorted : Sorted (v .pending)
   pub near : All (λ e. e .due ≤ never) (v .pending)
 
-append-all : (P : ℕ → Type 0) (ss ts : List ℕ) → All P ss → All P ts → All P (ss ++ ts)
+pub append-all : (P : ℕ → Type 0) (ss ts : List ℕ) → All P ss → All P ts → All P (ss ++ ts)
 append-all P [] ts h g = g
 append-all P (s ∷ ss) ts h g = (h .0, append-all P ss ts (h .1) g)
 
@@ -83,7 +85,7 @@ early-one test v vs h = go (test v)
           arith,
           early-append (map (λ e. e .due) (v .pending)) (returns (keep test vs)) (dues-all (v .pending) (h .0 .near))
               (returns-all test vs (h .1)),
-          early-front (v .pending) (h .0 .rising) (h .0 .near),
+          early-front (v .pending) (h .0 .sorted) (h .0 .near),
         )
     go false = omega (arith, early-most (returns (keep test vs)) (returns-all test vs (h .1)))
 

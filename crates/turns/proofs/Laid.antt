@@ -34,14 +34,6 @@ module _ {A B : Type 0} (f : A → B) (z : B) where
   laid-get (suc k) (x ∷ l) zero a b h g = refl
   laid-get (suc k) (x ∷ l) (suc i) a b h g = laid-get k l i a b (omega arith) (omega arith)
 
-  pub laid-out : (k : ℕ) (l : List A) (i : ℕ) (b : B) → i < k → length l ≤ i → getD (laid k f z l) i b ≡ z
-  unfolding laid
-  laid-out zero l i b h g = absurd (omega arith)
-  laid-out (suc k) [] zero b h g = refl
-  laid-out (suc k) [] (suc i) b h g = laid-out k [] i b (omega arith) (omega arith)
-  laid-out (suc k) (x ∷ l) zero b h g = absurd (omega arith)
-  laid-out (suc k) (x ∷ l) (suc i) b h g = laid-out k l i b (omega arith) (omega arith)
-
   pub laid-set : (k : ℕ) (l : List A) (i : ℕ) (a : A) → i < length l → length l ≤ k → set (laid k f z l) i (f a) ≡ laid k f z (set l i a)
   unfolding laid
   laid-set k [] i a h g = absurd (omega arith)

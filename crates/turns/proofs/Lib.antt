@@ -1,11 +1,12 @@
 -- The laws that the functions' proofs and the theorems cite. Assumes nothing.
 pub mod Shift
 pub mod Laid
-pub mod State
+pub mod Written
 pub mod Return
 pub mod Places
 pub mod Charge
-pub mod Valid
+pub mod Invariant
+pub mod Ranked
 pub mod Choose
 pub mod Rows
 pub mod Stage
@@ -13,5 +14,6 @@ pub mod Sweep
 pub mod Shape
 pub mod Settle
 pub mod Questions
+pub mod Paper
 pub mod Made
 pub mod OneReply

@@ -6,124 +6,145 @@ use mathlib.Core.Path.{_≡_, refl, ap, sym, _∙_, subst}
 use mathlib.Core.List.{List, [], _∷_}
 use mathlib.Core.Option.{Option, none, some}
 use native.Mathlib.Omega.{arith}
-use lib.ListN.{length}
 use Rattle.units.specs.declared.Moment.{Moment}
 use Rattle.rules.specs.Card.{Card, empty}
 use Rattle.rules.specs.Refuse.{refusal}
 use Rattle.rules.specs.Refuse.{Refusal as Row}
-use Rattle.rules.specs.Change.{change as changeRule}
-use Rattle.rules.specs.Turn.{turn, answered, settled, afterCharge, afterReturn}
-use Rattle.rules.specs.Turn.{Reply as Said}
+use Rattle.rules.specs.Turn.{turn, answered, accepted, report, settled, afterChange}
+use Rattle.rules.proofs.Accepted.{Passed, passed}
+use Rattle.rules.proofs.Reached.{card-accepted}
 use Rattle.rules.specs.Turn.{Report as Told}
-use Rattle.rules.specs.Turn.{ok, refused}
-use Rattle.turns.specs.Calls.{paperHolder, paperTimer, paperReply, holderSaid, timerSaid}
+use Rattle.rules.specs.Turn.{Call, ok}
 use Rattle.rules.specs.History.{after}
 use Rattle.rules.specs.Meaning.{Meaning}
 use Rattle.rules.specs.Demand3.{Demand3}
 use Rattle.rules.proofs.Meaning.{meaning as meaningOf}
 use Rattle.rules.proofs.Demand3.{demand3 as demand3Of}
-use Rattle.rules.specs.Timer.{timer}
 use Rattle.turns.specs.declared.Core.{Core}
 use Rattle.turns.specs.declared.Change.{Change}
-use Rattle.turns.specs.State.{card, coreOf, ValidTenants, ValidCore}
-use Rattle.turns.specs.Calls.{asked, callOf, turned, replySaid, Asking, made, calls}
-use Rattle.turns.proofs.Valid.{bring-valid}
-use Rattle.turns.proofs.Rows.{idsOf, Met, met}
-use Rattle.turns.proofs.Stage.{placesOf, Holds, held, idles, holds, charge-valid, idle-valid}
-use Rattle.turns.proofs.Shape.{change-valid}
-use Rattle.turns.proofs.Settle.{shown-again, core-valid, empty-valid}
+use Rattle.turns.specs.Written.{card, coreOf}
+use Rattle.turns.proofs.Invariant.{SoundCore, Between, between-at}
+use Rattle.turns.specs.declared.Report.{Report}
+use Rattle.turns.specs.declared.Reply.the-variants.{Done, No}
+use Rattle.turns.specs.Calls.{asked, callOf, turned, paperHolder, paperReply}
+use Rattle.turns.specs.State.{Asking, made, callsOf, ValidCore}
+use Rattle.turns.specs.declared.Answer.{Answer}
+use Rattle.turns.proofs.Shape.{change-ranked}
+use Rattle.turns.proofs.Settle.{shown-again, core-sound, empty-shown, empty-sound, turned-refused}
+use Rattle.turns.proofs.Paper.{paper-said}
 
-module _ (c : Core) (r : ValidCore c) (now : Moment) (change : Change) (e : refusal (card c) (now .0) (asked change) ≡ none) where
-  meets : Met (card c) (now .0) change
-  meets = met (card c) (now .0) change e
+-- an accepted call: the tenants handed back are those of the rules' card after one call more
+module _ (c : Core) (r : SoundCore c) (now : Moment) (change : Change) (e : refusal (card c) (now .0) (asked change) ≡ none) where
+  meets : Passed (card c) (now .0) (asked change)
+  meets = passed (card c) (now .0) (asked change) e
 
-  charged-good : ValidTenants (now .0) (afterCharge (card c) (now .0))
-  charged-good = go (holds c r)
-    where
-      go : Holds c → ValidTenants (now .0) (afterCharge (card c) (now .0))
-      go (held w h) = charge-valid c r now change meets w h
-      go (idles s i) = idle-valid c r now change meets s
+  next-card : settled (now .0) (afterChange (card c) (callOf now change)) ≡ after (callOf now change ∷ r .calls)
+  next-card = sym (card-accepted (card c) (callOf now change) e) ∙ ap (λ (k : Card). (turn k (callOf now change)) .card) (r .shows)
 
-  returned-good : ValidTenants (now .0) (afterReturn (card c) (now .0))
-  returned-good = bring-valid (now .0) (now .0) (afterCharge (card c) (now .0)) charged-good
+  pub next-between : Between (now .0) (afterChange (card c) (callOf now change))
+  unfolding settled
+  next-between =
+      between-at (settled (now .0) (afterChange (card c) (callOf now change))) (callOf now change ∷ r .calls) next-card
+      (change-ranked (card c) (now .0) change (meets .asked-for) (r .ranked))
 
-  changed-good : ValidTenants (now .0) (changeRule (asked change) (afterReturn (card c) (now .0)))
-  changed-good =
-      change-valid (card c) (now .0) (placesOf (afterReturn (card c) (now .0))) (idsOf (afterReturn (card c) (now .0))) (length (afterReturn (card c) (now .0)))
-      (record { places = refl; tunnels = refl; count = refl }) returned-good change (meets .rows)
+-- one call: the core handed back is sound, and shows the card that the rules hand back
+record Kept (c : Core) (now : Moment) (change : Change) : Type 0 where
+  sound : SoundCore ((turned c now change) .core)
+  shows : card ((turned c now change) .core) ≡ (turn (card c) (callOf now change)) .card
 
--- what is said has the paper's number and values
-paper-said : (s : Said) → paperReply (replySaid s) ≡ s
-paper-said (ok r) = ap ok (same (paperHolder (holderSaid (r .run))) (r .run) (paperTimer (timerSaid (r .timer))) (r .timer) (holder (r .run)) (time (r .timer)))
-  where
-    holder : (o : Option ℕ) → paperHolder (holderSaid o) ≡ o
-    holder none = refl
-    holder (some t) = refl
-
-    time : (o : Option ℕ) → paperTimer (timerSaid o) ≡ o
-    time none = refl
-    time (some t) = refl
-
-    same : (a a′ b b′ : Option ℕ) → a ≡ a′ → b ≡ b′
-        → _≡_ {A = Told} (record { time = r .time; run = a; usable = r .usable; timer = b })
-        (record { time = r .time; run = a′; usable = r .usable; timer = b′ })
-    same a a′ b b′ p q = rw (p, q)
-paper-said (refused x) = refl
-
--- one call: the core handed back is valid, and shows the card that the rules hand back
-pub record Kept (c : Core) (now : Moment) (change : Change) : Type 0 where
-  pub valid : ValidCore ((turned c now change) .core)
-  pub shows : card ((turned c now change) .core) ≡ (turn (card c) (callOf now change)) .card
-  pub says : paperReply ((turned c now change) .reply) ≡ (turn (card c) (callOf now change)) .reply
-
-pub kept : (c : Core) → ValidCore c → (now : Moment) (change : Change) → Kept c now change
+kept : (c : Core) → SoundCore c → (now : Moment) (change : Change) → Kept c now change
 unfolding turned turn
 kept c r now change =
     record {
-      valid = valid (refusal (card c) (now .0) (asked change)) refl;
+      sound = sound (refusal (card c) (now .0) (asked change)) refl;
       shows = shows (refusal (card c) (now .0) (asked change)) refl;
-      says = paper-said ((answered (card c) (callOf now change) (refusal (card c) (now .0) (asked change))) .reply);
     }
   where
-    valid : (o : Option Row) → refusal (card c) (now .0) (asked change) ≡ o → ValidCore (coreOf ((answered (card c) (callOf now change) o) .card))
-    valid none e = core-valid (now .0) (changeRule (asked change) (afterReturn (card c) (now .0))) (meets c r now change e .time)
-        (changed-good c r now change e)
-    valid (some x) e = subst ValidCore (r .written) r
+    sound : (o : Option Row) → refusal (card c) (now .0) (asked change) ≡ o → SoundCore (coreOf ((answered (card c) (callOf now change) o) .card))
+    sound none e = core-sound (now .0) (afterChange (card c) (callOf now change)) (meets c r now change e .not-above)
+        (next-between c r now change e) (callOf now change ∷ r .calls) (next-card c r now change e)
+    sound (some x) e = subst SoundCore (r .written) r
 
     shows : (o : Option Row) → refusal (card c) (now .0) (asked change) ≡ o → card (coreOf ((answered (card c) (callOf now change) o) .card)) ≡
         (answered (card c) (callOf now change) o) .card
-    shows none e = shown-again (now .0) (changeRule (asked change) (afterReturn (card c) (now .0))) (meets c r now change e .time)
-        (changed-good c r now change e)
+    shows none e = shown-again (now .0) (afterChange (card c) (callOf now change)) (meets c r now change e .not-above)
+        (next-between c r now change e)
     shows (some x) e = ap card (sym (r .written))
 
-pub record Made (l : List Asking) : Type 0 where
-  pub valid : ValidCore (made l)
-  pub shows : card (made l) ≡ after (calls l)
-  pub is : made l ≡ coreOf (after (calls l))
+record Tied (l : List Asking) : Type 0 where
+  sound : SoundCore (made l)
+  shows : card (made l) ≡ after (callsOf l)
 
-empty-shown : card (coreOf empty) ≡ empty
-unfolding settled timer
-empty-shown = shown-again 0 [] (omega arith) (record { few = omega arith; each = tt; ranked = tt; distinct = tt })
-
-pub tied : (l : List Asking) → Made l
-tied [] = record { valid = empty-valid; shows = empty-shown; is = refl }
+tied : (l : List Asking) → Tied l
+tied [] = record { sound = empty-sound; shows = empty-shown }
 tied (a ∷ l) =
-    let m : Made l = tied l in
-    let k : Kept (made l) (a .now) (a .change) = kept (made l) (m .valid) (a .now) (a .change) in
-    let s : card (made (a ∷ l)) ≡ after (calls (a ∷ l)) = k .shows ∙ ap (λ (c : Card). (turn c (callOf (a .now) (a .change))) .card) (m .shows) in
-    record { valid = k .valid; shows = s; is = k .valid .written ∙ ap coreOf s }
-
--- what the rules' theorems say of the cores that a host can hold: the meaning of the card shown, and demand 3, which speaks of the
--- card after the same calls, that is the card shown
-pub record Promised (l : List Asking) : Type 0 where
-  pub shows : card (made l) ≡ after (calls l)
-  pub meaning : Meaning (card (made l))
-  pub demand3 : Demand3 (calls l)
-
-pub promised : (l : List Asking) → Promised l
-promised l =
+    let m : Tied l = tied l in
+    let k : Kept (made l) (a .now) (a .change) = kept (made l) (m .sound) (a .now) (a .change) in
     record {
-      shows = tied l .shows;
-      meaning = subst Meaning (sym (tied l .shows)) (meaningOf (calls l));
-      demand3 = demand3Of (calls l);
+      sound = k .sound;
+      shows = k .shows ∙ ap (λ (c : Card). (turn c (callOf (a .now) (a .change))) .card) (m .shows);
     }
+
+-- what every core in a contract is known to be
+pub sound : (c : Core) → ValidCore c → SoundCore c
+sound c v = subst SoundCore (sym (v .made-by)) (tied (v .calls) .sound)
+
+-- the empty core, and one call more
+pub first : (c : Core) → c ≡ coreOf empty → (c ≡ coreOf empty) × ValidCore c
+first c e = (e, record { calls = []; made-by = e })
+
+pub one-more : (c : Core) (now : Moment) (change : Change) → ValidCore c → (a : Answer) → a ≡ turned c now change
+    → (a ≡ turned c now change) × ValidCore (a .core)
+one-more c now change v a e = (
+  e,
+  record {
+    calls = record { now = now; change = change } ∷ v .calls;
+    made-by = ap (λ (x : Answer). x .core) e ∙ ap (λ (d : Core). (turned d now change) .core) (v .made-by);
+  },
+)
+
+-- "A refusal returns the number and the detail and no result; the state handed back equals the state handed in."
+pub refused-keeps : (c : Core) → ValidCore c → (now : Moment) (change : Change) (r : Row) → refusal (card c) (now .0) (asked change) ≡ some r
+    → turned c now change ≡ record { core = c; reply = No (record { number = r .number; detail = r .detail }) }
+refused-keeps c v now change r e =
+    sym (turned-refused c now change (record { number = r .number; detail = r .detail }) (sound c v) e)
+
+-- what the rules' theorems say of every core in a contract: the meaning of the card shown, and demand 3 of the calls that made it,
+-- which speaks of the card after them, that is the card shown. The reply to a further call is the rules' after the same calls, and
+-- whom it names the history counts.
+pub record Promised (c : Core) (calls : List Asking) : Type 0 where
+  pub shows : card c ≡ after (callsOf calls)
+  pub is : c ≡ coreOf (after (callsOf calls))
+  pub meaning : Meaning (card c)
+  pub demand3 : Demand3 (callsOf calls)
+  pub replies : (now : Moment) (change : Change) → paperReply ((turned c now change) .reply) ≡ (turn (after (callsOf calls)) (callOf now change)) .reply
+  pub names : (now : Moment) (change : Change) (r : Report) → (turned c now change) .reply ≡ Done r
+      → paperHolder (r .run) ≡ after (callOf now change ∷ callsOf calls) .running
+
+rule-names : (k : Card) (call : Call) (r : Told) → ok r ≡ (turn k call) .reply → r .run ≡ (turn k call) .card .running
+unfolding turn
+rule-names k call r = go (refusal k (call .now) (call .asked))
+  where
+    go : (o : Option Row) → ok r ≡ (answered k call o) .reply → r .run ≡ (answered k call o) .card .running
+    go none e = let f : r ≡ report (accepted k call) = cc in ap (λ (x : Told). x .run) f
+    go (some x) e = let z : _≡_ {A = ℕ} 0 1 = cc in absurd (omega arith)
+
+pub promised : (c : Core) (v : ValidCore c) → Promised c (v .calls)
+unfolding turned
+promised c v =
+    record {
+      shows = shows;
+      is = sound c v .written ∙ ap coreOf shows;
+      meaning = subst Meaning (sym shows) (meaningOf (callsOf (v .calls)));
+      demand3 = demand3Of (callsOf (v .calls));
+      replies = replies;
+      names = λ now change r e. rule-names (after (callsOf (v .calls))) (callOf now change) _ (ap paperReply (sym e) ∙ replies now change);
+    }
+  where
+    shows : card c ≡ after (callsOf (v .calls))
+    shows = ap card (v .made-by) ∙ tied (v .calls) .shows
+
+    replies : (now : Moment) (change : Change)
+        → paperReply ((turned c now change) .reply) ≡ (turn (after (callsOf (v .calls))) (callOf now change)) .reply
+    replies now change =
+        paper-said ((turn (card c) (callOf now change)) .reply) ∙ ap (λ (k : Card). (turn k (callOf now change)) .reply) shows

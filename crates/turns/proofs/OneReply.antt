@@ -1,6 +1,6 @@
 -- Any two replies that the promise of a public function of `turns` allows are equal, the state handed back included (`OneReply` of crate promise). Assumes
 -- nothing.
-use mathlib.Core.Path.{_≡_, sym, _∙_}
+use mathlib.Core.Path.{sym, _∙_}
 use Rattle.promise.specs.OneReply.{OneReply}
 use Rattle.turns.proofs.Core.empty.Kinds as empty
 use Rattle.turns.proofs.Core.empty.Reads as empty-promise

@@ -5,22 +5,24 @@ use mathlib.Core.Path.{_≡_, refl, ap, sym, _∙_, subst}
 use mathlib.Core.Bool.{Bool, true, false, cond, not, _||_}
 use mathlib.Core.List.{List, [], _∷_}
 use native.Mathlib.Omega.{arith}
+use lib.Dec.{ltb, eqb}
 use lib.ListN.{length, getD, set}
-use borrow.Author.Tests.{eqb-true, ne-eqb}
+use borrow.Author.Tests.{eqb-true, ne-eqb, le-ltb}
 use Rattle.units.specs.Units.{tunnel}
 use Rattle.units.specs.declared.Tunnel.{Tunnel}
 use Rattle.rules.specs.Lists.{keep, any, All}
 use Rattle.rules.specs.Limits.{largestTunnel}
 use Rattle.rules.specs.Vcpu.{moreUrgent, named}
+use Rattle.rules.specs.Vcpu.{Description as Terms}
 use Rattle.rules.specs.Vcpu.{Vcpu as Tenant}
 use Rattle.rules.specs.Card.{onCard, toNamed}
 use Rattle.rules.specs.Change.{placed}
 use Rattle.rules.proofs.Tests.{clash}
-use Rattle.rules.proofs.Urgency.{by-rank}
 use Rattle.turns.specs.declared.Vcpu.{Vcpu}
 use Rattle.turns.specs.Laid.{laid}
-use Rattle.turns.specs.State.{nobody, tunnelOf, written, place, Distinct, termsOf}
-use Rattle.turns.specs.Table.{seek, rankOf, spotIn}
+use Rattle.turns.specs.Written.{nobody, tunnelOf, written, place}
+use Rattle.turns.proofs.Invariant.{Distinct, termsOf}
+use Rattle.turns.specs.Table.{seek, urgency, spotIn}
 use Rattle.turns.proofs.Laid.{putAt, cutAt}
 
 -- the place of one that is there, and of one that is not
@@ -103,11 +105,28 @@ placed-put a (w ∷ ws) = go (moreUrgent (a .terms) (w .terms)) (placed-put a ws
     go true rec = refl
     go false rec = ap (λ (r : List Tenant). w ∷ r) rec
 
-pub spot-laid : (a : Tenant) (y : Vcpu) (z : Tunnel) (k : ℕ) (vs : List Tenant) → a .terms .tunnel ≤ largestTunnel
-    → All (λ v. v .terms .tunnel ≤ largestTunnel) vs → length vs ≤ k
-    → spotIn (rankOf (a .terms .priority) (a .terms .tunnel)) (length vs) (laid k written y vs) (laid k tunnelOf z vs) ≡ spotOf a vs
+-- the more urgent of two, by priority and identifier alone
+pub level-urgent : (a b : Terms) → eqb (a .priority) (b .priority) ≡ true → ltb (a .tunnel) (b .tunnel) ≡ moreUrgent a b
+unfolding moreUrgent
+level-urgent a b e =
+    let p : a .priority ≡ b .priority = eqb-true (a .priority) (b .priority) e in
+    rw (le-ltb (a .priority) (b .priority) (omega arith), e)
+
+pub apart-urgent : (a b : Terms) → eqb (a .priority) (b .priority) ≡ false → ltb (a .priority) (b .priority) ≡ moreUrgent a b
+unfolding moreUrgent
+apart-urgent a b e = rw e (go (ltb (a .priority) (b .priority)))
+  where
+    go : (t : Bool) → t ≡ t || false
+    go true = refl
+    go false = refl
+
+terms-urgent : (a b : Terms) → moreUrgent a (urgency (b .priority) (b .tunnel)) ≡ moreUrgent a b
+unfolding moreUrgent
+terms-urgent a b = refl
+
+pub spot-laid : (a : Tenant) (y : Vcpu) (z : Tunnel) (k : ℕ) (vs : List Tenant) → length vs ≤ k
+    → spotIn (a .terms) (length vs) (laid k written y vs) (laid k tunnelOf z vs) ≡ spotOf a vs
 unfolding laid written
-spot-laid a y z k [] h g l = refl
-spot-laid a y z zero (v ∷ vs) h g l = absurd (omega arith)
-spot-laid a y z (suc k) (v ∷ vs) h g l =
-    rw (by-rank (a .terms) (v .terms) h (g .0), spot-laid a y z k vs h (g .1) (omega arith))
+spot-laid a y z k [] l = refl
+spot-laid a y z zero (v ∷ vs) l = absurd (omega arith)
+spot-laid a y z (suc k) (v ∷ vs) l = rw (terms-urgent (a .terms) (v .terms), spot-laid a y z k vs (omega arith))

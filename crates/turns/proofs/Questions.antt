@@ -23,12 +23,13 @@ use Rattle.turns.specs.declared.Holder.the-variants.{Vcpu as Held}
 use Rattle.turns.specs.declared.Holder.the-variants.{Idle as Idle′}
 use Rattle.turns.specs.declared.Timer.{Timer}
 use Rattle.turns.specs.declared.Status.{Status}
-use Rattle.turns.specs.State.{idle, nobody, tunnelOf, written, noTenant, card, place, runningAt, timerAt, ValidCore}
+use Rattle.turns.specs.Written.{idle, nobody, tunnelOf, written, noTenant, card, place, runningAt, timerAt}
+use Rattle.turns.proofs.Invariant.{SoundCore, between}
 use Rattle.turns.specs.Table.{seek, holderOf}
 use Rattle.turns.specs.Calls.{holderSaid, timerSaid, statusOf}
 use Rattle.turns.proofs.Laid.{laid-get, laid-length}
 use Rattle.turns.proofs.Places.{place-there, seek-laid}
-use Rattle.turns.proofs.Valid.{all-weak}
+use Rattle.rules.proofs.Lists.{all-imp}
 use Rattle.turns.proofs.Stage.{places-are, ids-are, n-is}
 
 find-wide : (t : ℕ) (vs : List Tenant) → largestTunnel < t → All (λ v. v .terms .tunnel ≤ largestTunnel) vs → find t vs ≡ none
@@ -52,12 +53,12 @@ find-absent t (v ∷ vs) e = go (named t v) e (find-absent t vs)
     go true f rec = clash f
     go false f rec = rec f
 
-module _ (c : Core) (r : ValidCore c) (t : ℕ) where
+module _ (c : Core) (r : SoundCore c) (t : ℕ) where
   pub wide-none : largestTunnel < t → find t (card c .vcpus) ≡ none
-  wide-none h = find-wide t (card c .vcpus) h (all-weak (card c .vcpus) (λ v g. g .terms .tunnel) (r .card .tenants .each))
+  wide-none h = find-wide t (card c .vcpus) h (all-imp (λ v g. g .range .tunnel-high) (card c .vcpus) (between c r .each))
 
   sought : t ≤ largestTunnel → seek t (c .ids) ≡ cond (onCard t (card c .vcpus)) (place t (card c .vcpus)) 32
-  sought h = ap (seek t) (ids-are c r) ∙ seek-laid t 32 (card c .vcpus) h (r .card .tenants .few)
+  sought h = ap (seek t) (ids-are c r) ∙ seek-laid t 32 (card c .vcpus) h (between c r .few)
 
   pub look-there : (z : Vcpu) → t ≤ largestTunnel → seek t (c .ids) < 32
       → find t (card c .vcpus) ≡ some (getD (card c .vcpus) (place t (card c .vcpus)) noTenant)
@@ -72,7 +73,7 @@ module _ (c : Core) (r : ValidCore c) (t : ℕ) where
             ap (getD (c .places) (seek t (c .ids))) refl ∙ ap (λ (i : ℕ). getD (c .places) i z) s ∙ ap (λ (p : List Vcpu). getD p (place t
                 (card c .vcpus)) z) (places-are c r)
                 ∙ laid-get written (written noTenant) 32 (card c .vcpus) (place t (card c .vcpus)) noTenant z (place-there t (card c .vcpus) e)
-                (r .card .tenants .few),
+                (between c r .few),
           )
       go false e =
           let s : seek t (c .ids) ≡ 32 = sought h ∙ ap (λ (b : Bool). cond b (place t (card c .vcpus)) 32) e in
@@ -84,7 +85,7 @@ module _ (c : Core) (r : ValidCore c) (t : ℕ) where
       go : (b : Bool) → onCard t (card c .vcpus) ≡ b → find t (card c .vcpus) ≡ none
       go true e =
           let s : seek t (c .ids) ≡ place t (card c .vcpus) = sought h ∙ ap (λ (b : Bool). cond b (place t (card c .vcpus)) 32) e in
-          absurd (omega (arith, place-there t (card c .vcpus) e, r .card .tenants .few))
+          absurd (omega (arith, place-there t (card c .vcpus) e, between c r .few))
       go false e = find-absent t (card c .vcpus) e
 
 in-range : {A : Type 0} (l : List A) (i : ℕ) (a b : A) → i < length l → getD l i a ≡ getD l i b
@@ -99,7 +100,7 @@ holder-shown ids at l = go (ltb at idle) refl
     go true e = ap Held (in-range ids at (tunnel 0) (tunnel nobody) (omega (arith, ltb-true at idle e)))
     go false e = refl
 
-pub status-shown : (c : Core) → ValidCore c → (h : Holder) → h ≡ holderOf (c .ids) (c .running) → (s : Timer) → s ≡ timerSaid (timerAt (c .timer .0))
+pub status-shown : (c : Core) → SoundCore c → (h : Holder) → h ≡ holderOf (c .ids) (c .running) → (s : Timer) → s ≡ timerSaid (timerAt (c .timer .0))
     → _≡_ {A = Status} (record { time = c .last; run = h; timer = s; vcpus = c .n }) (statusOf (card c))
 unfolding card
 status-shown c r h he s se =

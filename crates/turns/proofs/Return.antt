@@ -17,17 +17,17 @@ use Rattle.rules.specs.Vcpu.{Vcpu as Tenant}
 use Rattle.rules.specs.Return.{returned, brought, still}
 use Rattle.turns.specs.declared.Vcpu.{Vcpu}
 use Rattle.turns.specs.Laid.{laid}
-use Rattle.turns.specs.State.{never, dueOf, amountOf, written, shown}
+use Rattle.turns.specs.Written.{never, dueOf, amountOf, written, shown}
 use Rattle.turns.specs.Steps.{nextOf, returnedOne, headOf, ticksAt, bare, Returnable}
 use Rattle.turns.proofs.Laid.{laid-length, laid-more}
-use Rattle.turns.proofs.State.{under, shown-written}
+use Rattle.turns.proofs.Written.{under, shown-written}
 
 -- the time of the front entry, or the time above all
 abbrev pub front : List Entry → ℕ
 front [] = never
 front (e ∷ q) = e .due
 
-pub front-laid : (q : List Entry) → (getD (laid 8 dueOf (moment never) q) 0 (moment 0)) .0 ≡ front q
+front-laid : (q : List Entry) → (getD (laid 8 dueOf (moment never) q) 0 (moment 0)) .0 ≡ front q
 unfolding laid
 front-laid [] = refl
 front-laid (e ∷ q) = refl
@@ -37,7 +37,7 @@ unfolding written
 head-written v = front-laid (v .pending)
 
 -- a tenant with another queue, and one whose front entry became usable
-abbrev pub queued : Tenant → List Entry → Tenant
+abbrev queued : Tenant → List Entry → Tenant
 queued v q = record { terms = v .terms; runnable = v .runnable; usable = v .usable; ended = v .ended; pending = q }
 
 abbrev pub taken : Tenant → Entry → List Entry → Tenant

@@ -1,30 +1,29 @@
--- The code's verdict on a written table is the rules' refusal, or the place of the one named; and what an accepted call is known
--- to meet. Assumes nothing.
-use Prim.Native.Nat.{ℕ, _≤_, _<_}
-use mathlib.Core.Path.{_≡_, refl, ap, sym, _∙_}
-use mathlib.Core.Bool.{Bool, true, false, cond, not, _&&_}
+-- The code's verdict on a written table is the rules' refusal, or the place of the one named. Assumes nothing.
+use Prim.Native.Nat.{ℕ, _≤_}
+use mathlib.Core.Path.{_≡_, refl, ap, _∙_}
+use mathlib.Core.Bool.{Bool, true, false, cond, not}
 use mathlib.Core.List.{List}
 use mathlib.Core.Option.{Option, none, some}
 use native.Mathlib.Omega.{arith}
 use lib.Dec.{leb, ltb}
 use lib.ListN.{length}
-use borrow.Author.Tests.{ltb-false, leb-false, leb-true, lt-ltb, le-ltb, lt-leb, not-false}
+use borrow.Author.Tests.{ltb-false, lt-ltb, le-ltb, lt-leb, not-false}
 use Rattle.units.specs.Units.{moment, tunnel}
 use Rattle.units.specs.declared.Moment.{Moment}
 use Rattle.units.specs.declared.Tunnel.{Tunnel}
-use Rattle.rules.specs.Limits.{largestTime, largestTunnel, largestPeriod, mostVcpus, inRange}
+use Rattle.rules.specs.Limits.{largestTime, largestTunnel, mostVcpus, inRange}
 use Rattle.rules.specs.Vcpu.{Vcpu as Tenant}
 use Rattle.rules.specs.Card.{Card, onCard}
 use Rattle.rules.specs.Refuse.{row, rowLate, admitRows, namingRows, callRows, refusal}
 use Rattle.rules.specs.Refuse.{Refusal as Row}
-use Rattle.rules.proofs.Tests.{no-some, and-true}
+use Rattle.rules.proofs.Accepted.{row-passed}
 use Rattle.turns.specs.declared.Verdict.{Verdict}
 use Rattle.turns.specs.declared.Verdict.the-variants.{Go}
 use Rattle.turns.specs.declared.Description.{Description}
 use Rattle.turns.specs.declared.Change.{Change}
 use Rattle.turns.specs.declared.Change.the-variants.{Admit, Wake, Block, Remove, Tick}
 use Rattle.turns.specs.Laid.{laid}
-use Rattle.turns.specs.State.{never, nobody, idle, tunnelOf, place, timerOf}
+use Rattle.turns.specs.Written.{never, nobody, idle, tunnelOf, place, timerOf}
 use Rattle.turns.specs.Table.{seek}
 use Rattle.turns.specs.Judge.{refuse, verdictRow, judgeAdmit, judgeNaming, judgeCall, judge}
 use Rattle.turns.specs.Calls.{described, asked}
@@ -119,98 +118,7 @@ judge-same k now change few =
         (placeNamed change (k .vcpus))
         (λ f. call-same (k .vcpus) few change)
 
--- what an accepted call meets
-row-none : (b : Bool) (n d : ℕ) (o : Option Row) → row b n d o ≡ none → (b ≡ false) × (o ≡ none)
-row-none true n d o e = no-some (sym e)
-row-none false n d o e = (refl, e)
-
-late-none : (o : Option ℕ) (now : ℕ) (below : Option Row) → now ≤ largestTime → rowLate o now below ≡ none → (now ≤ timerOf o) × (below ≡ none)
-late-none none now below h e = (omega arith, e)
-late-none (some t) now below h e = let p : (ltb t now ≡ false) × (below ≡ none) = row-none (ltb t now) 3 t below e in (ltb-false t now (p .0), p .1)
-
-pub record Met (k : Card) (now : ℕ) (change : Change) : Type 0 where
-  pub time : now ≤ largestTime
-  pub onward : k .last ≤ now
-  pub timely : now ≤ timerOf (k .timer)
-  pub rows : callRows (k .vcpus) (asked change) ≡ none
-
-pub met : (k : Card) (now : ℕ) (change : Change) → refusal k now (asked change) ≡ none → Met k now change
-unfolding refusal
-met k now change e = record { time = h1; onward = ltb-false now (k .last) (p2 .0); timely = p3 .0; rows = p3 .1 }
-  where
-    p1 : (ltb largestTime now ≡ false) × (row (ltb now (k .last)) 2 0 (rowLate (k .timer) now (callRows (k .vcpus) (asked change))) ≡ none)
-    p1 = row-none (ltb largestTime now) 1 0 (row (ltb now (k .last)) 2 0 (rowLate (k .timer) now (callRows (k .vcpus) (asked change)))) e
-
-    h1 : now ≤ largestTime
-    h1 = ltb-false largestTime now (p1 .0)
-
-    p2 : (ltb now (k .last) ≡ false) × (rowLate (k .timer) now (callRows (k .vcpus) (asked change)) ≡ none)
-    p2 = row-none (ltb now (k .last)) 2 0 (rowLate (k .timer) now (callRows (k .vcpus) (asked change))) (p1 .1)
-
-    p3 : (now ≤ timerOf (k .timer)) × (callRows (k .vcpus) (asked change) ≡ none)
-    p3 = late-none (k .timer) now (callRows (k .vcpus) (asked change)) h1 (p2 .1)
-
 pub there : (vs : List Tenant) (t : ℕ) → namingRows vs t ≡ none → onCard t vs ≡ true
 there vs t e =
-    let p : (ltb largestTunnel t ≡ false) × (row (not (onCard t vs)) 7 0 none ≡ none) = row-none (ltb largestTunnel t) 4 0 (row (not
-    (onCard t vs)) 7 0 none) e in
-    not-false (onCard t vs) (row-none (not (onCard t vs)) 7 0 none (p .1) .0)
-
--- what an accepted admit meets
-pub record Fresh (vs : List Tenant) (d : Description) : Type 0 where
-  pub tunnel : d .tunnel .0 ≤ largestTunnel
-  pub period : d .period .0 ≤ largestPeriod
-  pub least : 1 ≤ d .capacity .0
-  pub capacity : d .capacity .0 ≤ d .period .0
-  pub new : onCard (d .tunnel .0) vs ≡ false
-  pub room : length vs < mostVcpus
-
-pub fresh : (vs : List Tenant) (d : Description) → admitRows vs (described d) ≡ none → Fresh vs d
-fresh vs d e = record {
-  tunnel = ltb-false largestTunnel t (p1 .0);
-  period = leb-true (d .period .0) largestPeriod (r3 .1);
-  least = leb-true 1
-      (d .capacity .0) (r2 .1);
-  capacity = leb-true (d .capacity .0) (d .period .0) (r1 .1);
-  new = p3 .0;
-  room = leb-false mostVcpus (length vs) p4;
-}
-  where
-    t : ℕ
-    t = d .tunnel .0
-
-    fits : Bool
-    fits = inRange (d .period .0) (d .capacity .0)
-
-    p1 : (ltb largestTunnel t ≡ false) × (row (not fits) 5 0 (row (onCard t vs) 6 0 (row (leb mostVcpus (length vs)) 8 0 none)) ≡ none)
-    p1 = row-none (ltb largestTunnel t) 4 0 (row (not fits) 5 0 (row (onCard t vs) 6 0 (row (leb mostVcpus (length vs)) 8 0 none))) e
-
-    p2 : (not fits ≡ false) × (row (onCard t vs) 6 0 (row (leb mostVcpus (length vs)) 8 0 none) ≡ none)
-    p2 = row-none (not fits) 5 0 (row (onCard t vs) 6 0 (row (leb mostVcpus (length vs)) 8 0 none)) (p1 .1)
-
-    p3 : (onCard t vs ≡ false) × (row (leb mostVcpus (length vs)) 8 0 none ≡ none)
-    p3 = row-none (onCard t vs) 6 0 (row (leb mostVcpus (length vs)) 8 0 none) (p2 .1)
-
-    p4 : leb mostVcpus (length vs) ≡ false
-    p4 = row-none (leb mostVcpus (length vs)) 8 0 none (p3 .1) .0
-
-    low : Bool
-    low = leb 1 (d .period .0)
-
-    high : Bool
-    high = leb (d .period .0) largestPeriod
-
-    some′ : Bool
-    some′ = leb 1 (d .capacity .0)
-
-    most : Bool
-    most = leb (d .capacity .0) (d .period .0)
-
-    r1 : (low && high && some′ ≡ true) × (most ≡ true)
-    r1 = and-true (low && high && some′) most (not-false fits (p2 .0))
-
-    r2 : (low && high ≡ true) × (some′ ≡ true)
-    r2 = and-true (low && high) some′ (r1 .0)
-
-    r3 : (low ≡ true) × (high ≡ true)
-    r3 = and-true low high (r2 .0)
+    let p = row-passed (ltb largestTunnel t) 4 0 (row (not (onCard t vs)) 7 0 none) e in
+    not-false (onCard t vs) (row-passed (not (onCard t vs)) 7 0 none (p .1) .0)

@@ -1,9 +1,9 @@
 -- The end of an accepted call: what the scan found is written as the rules' card and said as the rules' report, and what is
 -- written is shown again. Assumes nothing.
-use Prim.Native.Nat.{ℕ, _+_, _≤_, _<_, min}
+use Prim.Native.Nat.{ℕ, suc, _+_, _≤_, _<_, min}
 use mathlib.Core.Path.{_≡_, refl, ap, sym, _∙_, subst}
 use mathlib.Core.Bool.{Bool, _&&_}
-use mathlib.Core.List.{List, [], _∷_, _++_, map}
+use mathlib.Core.List.{List, [], _∷_, map}
 use mathlib.Core.Option.{Option, none, some}
 use native.Mathlib.Omega.{arith}
 use lib.ListN.{length, getD, take, drop, length-take, drop-of-length-le}
@@ -31,39 +31,49 @@ use Rattle.turns.specs.declared.Holder.{Holder}
 use Rattle.turns.specs.declared.Timer.{Timer}
 use Rattle.turns.specs.declared.Refusal.{Refusal}
 use Rattle.turns.specs.declared.Reply.the-variants.{Done, No}
+use Rattle.rules.specs.Turn.{Call}
+use Rattle.rules.specs.History.{after}
+use Rattle.rules.specs.Meaning.{Sorted}
 use Rattle.rules.proofs.Tests.{no-some}
+use Rattle.rules.proofs.Lists.{all-imp, all-both, all-keep}
+use Rattle.rules.proofs.Queue.{Rising}
+use Rattle.rules.proofs.Sound.{Sound}
+use Rattle.rules.proofs.Timer.{while-running}
 use Rattle.turns.specs.declared.Vcpu.{Vcpu}
 use Rattle.turns.specs.declared.Core.{Core}
 use Rattle.turns.specs.declared.Pick.{Pick}
 use Rattle.turns.specs.declared.Holder.the-variants.{Vcpu as Held}
-use Rattle.turns.specs.State.{never, idle, nobody, tunnelOf, written, noTenant, card, coreOf, place, placeOf, timerOf, timerAt, runningAt, tenants, ValidTenant, ValidTenants, ValidCard, ValidCore}
+use Rattle.turns.specs.Written.{never, idle, nobody, tunnelOf, written, noTenant, card, coreOf, place, placeOf, timerOf, timerAt, runningAt, tenants}
+use Rattle.turns.proofs.Invariant.{Ranked, termsOf, SoundCore, Between}
 use Rattle.turns.specs.Steps.{picks, pickedOf, timerFor}
 use Rattle.turns.specs.Table.{holderOf}
 use Rattle.turns.specs.Calls.{holderSaid, timerSaid, asked, callOf, answerOf, turned}
 use Rattle.turns.proofs.Laid.{laid-get, laid-front}
-use Rattle.turns.proofs.State.{tenants-laid}
-use Rattle.turns.proofs.Valid.{all-weak, all-get, all-keep}
-use Rattle.turns.proofs.Choose.{Calm, idleWith, pickFor, scan}
+use Rattle.turns.proofs.Written.{tenants-laid}
+use Rattle.turns.proofs.Ranked.{all-get}
+use Rattle.turns.proofs.Choose.{append-all, Calm, idleWith, pickFor, scan}
 use Rattle.turns.proofs.Rows.{idsOf}
-use Rattle.turns.proofs.Stage.{placesOf, Filled, small, At, chosen-at}
+use Rattle.turns.proofs.Stage.{placesOf, Filled, small, all-fit, At, chosen-at}
 
 -- no time that the rules name reaches this one
 abbrev bound : ℕ
 bound = 2000000000000
 
+rising-below : (low high : ℕ) (q : List Entry) → Rising low high q → All (λ e. e .due ≤ high) q
+rising-below low high [] h = tt
+rising-below low high (e ∷ q) h = (h .1, rising-below (e .due) high q (h .2))
+
 dues-below : (q : List Entry) (b : ℕ) → b ≤ bound → All (λ e. e .due ≤ b) q → All (λ t. t ≤ bound) (map (λ e. e .due) q)
 dues-below [] b l h = tt
 dues-below (e ∷ q) b l h = (omega (arith, h .0), dues-below q b l (h .1))
 
-both : (ss ts : List ℕ) → All (λ t. t ≤ bound) ss → All (λ t. t ≤ bound) ts → All (λ t. t ≤ bound) (ss ++ ts)
-both [] ts h g = g
-both (s ∷ ss) ts h g = (h .0, both ss ts (h .1) g)
-
-returns-below : (now : ℕ) (vs : List Tenant) → now ≤ largestTime → All (ValidTenant now) vs → All (λ t. t ≤ bound) (returns vs)
+returns-below : (now : ℕ) (vs : List Tenant) → now ≤ largestTime → All (Sound now) vs → All (λ t. t ≤ bound) (returns vs)
 returns-below now [] l h = tt
 returns-below now (v ∷ vs) l h =
-    both (map (λ e. e .due) (v .pending)) (returns vs)
-    (dues-below (v .pending) (now + v .terms .period) (omega (arith, h .0 .terms .period)) (h .0 .near)) (returns-below now vs l (h .1))
+    append-all (λ t. t ≤ bound) (map (λ e. e .due) (v .pending)) (returns vs)
+    (dues-below (v .pending) (now + v .terms .period) (omega (arith, h .0 .range .period-high)) (rising-below (suc now) (now + v .terms .period) (v .pending)
+    (h .0 .order)))
+    (returns-below now vs l (h .1))
 
 early-below : (ts : List ℕ) (t : ℕ) → All (λ x. x ≤ bound) ts → earliest ts ≡ some t → t ≤ bound
 early-below [] t h e = no-some e
@@ -73,34 +83,35 @@ early-below (x ∷ ts) t h e = go (earliest ts) e
     go none f = let g : x ≡ t = cc in omega (arith, h .0)
     go (some y) f = let g : min x y ≡ t = cc in omega (arith, h .0)
 
-pub calm : (now : ℕ) (vs : List Tenant) → now ≤ largestTime → All (ValidTenant now) vs → All Calm vs
-calm now vs l h = all-weak vs (λ v g. record { rising = g .rising; near = all-weak (v .pending) (λ e f. omega (arith, g .terms .period)) (g .near) }) h
+calm : (now : ℕ) (vs : List Tenant) → now ≤ largestTime → All (Sound now) vs → All (λ v. Sorted (v .pending)) vs → All Calm vs
+calm now vs l =
+    all-both (λ v g s. record {
+      sorted = s;
+      near = all-imp (λ e f. omega (arith, g .range .period-high)) (v .pending) (rising-below (suc now) (now + v .terms .period) (v .pending) (g .order));
+    }) vs
 
-module _ (now : ℕ) (vs : List Tenant) (l : now ≤ largestTime) (r : ValidTenants now vs) where
+module _ (now : ℕ) (vs : List Tenant) (l : now ≤ largestTime) (r : Between now vs) where
+  usable-small : (v : Tenant) → At v vs → v .usable ≤ largestPeriod
+  usable-small v a =
+      let s : Sound now v = subst (Sound now) (a .is) (all-get (Sound now) vs (place (v .terms .tunnel) vs) noTenant (r .each) (a .inside)) in
+      omega (arith, s .whole, s .range .capacity-high, s .range .period-high)
+
+  early-small : (test : Tenant → Bool) (t : ℕ) → earliest (returns (keep test vs)) ≡ some t → t ≤ bound
+  early-small test t e = early-below (returns (keep test vs)) t (returns-below now (keep test vs) l (all-keep (Sound now) test vs (r .each))) e
+
   -- the timer stays below the time above all
   timer-below : (t : ℕ) → timer now vs (choose vs) ≡ some t → t < never
   unfolding timer
   timer-below t = go (choose vs) refl
     where
       go : (o : Option Tenant) → choose vs ≡ o → timer now vs o ≡ some t → t < never
-      go none e f =
-          let g : t ≤ bound = early-below (returns (keep (λ w. w .runnable) vs)) t (returns-below now (keep (λ w. w .runnable) vs) l (all-keep
-          (ValidTenant now) (λ w. w .runnable) vs (r .each))) f in
-          omega arith
+      go none e f = omega (arith, early-small (λ w. w .runnable) t f)
       go (some v) e f =
           let a : At v vs = chosen-at ready vs v (r .distinct) e in
-          let g : earlier (now + v .usable) (earliest (returns (keep (λ w. w .runnable && moreUrgent (w .terms) (v .terms)) vs))) ≡ t = cc in
-          omega (arith, most (now + v .usable) (earliest (returns (keep (λ w. w .runnable && moreUrgent (w .terms) (v .terms)) vs))), small-usable v a)
-        where
-          most : (a : ℕ) (o : Option ℕ) → earlier a o ≤ a
-          most a none = omega arith
-          most a (some b) = omega arith
-
-          small-usable : (v : Tenant) → At v vs → v .usable ≤ largestPeriod
-          small-usable v a =
-              let s : ValidTenant now v = subst (ValidTenant now) (a .is) (all-get (ValidTenant now) vs (place (v .terms .tunnel) vs) noTenant
-              (r .each) (a .inside)) in
-              omega (arith, s .whole, s .terms .capacity, s .terms .period)
+          let w = while-running now vs v in
+          let p : some (w .0) ≡ some t = sym (w .1) ∙ f in
+          let g : w .0 ≡ t = cc in
+          omega (arith, w .2 .in-time, usable-small v a)
 
   timer-back : timerAt (timerOf (timer now vs (choose vs))) ≡ timer now vs (choose vs)
   timer-back = go (timer now vs (choose vs)) (λ t e. timer-below t e)
@@ -125,7 +136,7 @@ module _ (now : ℕ) (vs : List Tenant) (l : now ≤ largestTime) (r : ValidTena
   unfolding card coreOf settled
   shown-again =
       same (runningAt (placeOf (runs (choose vs)) vs) (idsOf vs)) (timerAt (timerOf (timer now vs (choose vs)))) (tenants (length vs) (idsOf vs) (placesOf vs))
-      running-back timer-back (tenants-laid (tunnel nobody) (written noTenant) 32 vs (r .few) (small now vs r))
+      running-back timer-back (tenants-laid (tunnel nobody) (written noTenant) 32 vs (r .few) (small vs (all-fit now vs (r .each))))
     where
       same : (a : Option ℕ) (b : Option ℕ) (c : List Tenant) → a ≡ runs (choose vs) → b ≡ timer now vs (choose vs) → c ≡ vs
           → _≡_ {A = Card} (record { last = now; running = a; timer = b; vcpus = c }) (record {
@@ -137,41 +148,38 @@ module _ (now : ℕ) (vs : List Tenant) (l : now ≤ largestTime) (r : ValidTena
           })
       same a b c p q s = rw (p, q, s)
 
-  pub settled-valid : ValidCard (settled now vs)
+  pub core-sound : (calls : List Call) → settled now vs ≡ after calls → SoundCore (coreOf (settled now vs))
   unfolding settled
-  settled-valid = record { time = l; tenants = r; settled = refl }
+  core-sound calls e =
+      record {
+        written = ap coreOf (sym shown-again);
+        calls = calls;
+        shows = shown-again ∙ e;
+        ranked = subst (λ (k : Card). Ranked (termsOf (k .vcpus))) (sym shown-again) (r .ranked);
+      }
 
-  pub core-valid : ValidCore (coreOf (settled now vs))
-  core-valid = record { written = ap coreOf (sym shown-again); card = subst ValidCard (sym shown-again) settled-valid }
-
-  pub seat-found : (pickFor never 0 vs (choose vs)) .at ≡ placeOf (runs (choose vs)) vs
+  seat-found : (pickFor never 0 vs (choose vs)) .at ≡ placeOf (runs (choose vs)) vs
   seat-found = go (choose vs)
     where
       go : (o : Option Tenant) → (pickFor never 0 vs o) .at ≡ placeOf (runs o) vs
       go none = refl
       go (some v) = omega arith
 
-  pub usable-found : (pickFor never 0 vs (choose vs)) .usable ≡ amount (usableOf (choose vs))
+  usable-found : (pickFor never 0 vs (choose vs)) .usable ≡ amount (usableOf (choose vs))
   usable-found = go (choose vs)
     where
       go : (o : Option Tenant) → (pickFor never 0 vs o) .usable ≡ amount (usableOf o)
       go none = refl
       go (some v) = refl
 
-  usable-small : (v : Tenant) → At v vs → v .usable ≤ largestPeriod
-  usable-small v a =
-      let s : ValidTenant now v = subst (ValidTenant now) (a .is) (all-get (ValidTenant now) vs (place (v .terms .tunnel) vs) noTenant (r .each) (a .inside)) in
-      omega (arith, s .whole, s .terms .capacity, s .terms .period)
-
   early-within : (test : Tenant → Bool) → timerOf (earliest (returns (keep test vs))) ≤ never
   early-within test = go (earliest (returns (keep test vs))) refl
     where
       go : (o : Option ℕ) → earliest (returns (keep test vs)) ≡ o → timerOf o ≤ never
       go none e = omega arith
-      go (some t) e = let g : t ≤ bound = early-below (returns (keep test vs)) t (returns-below now (keep test vs) l (all-keep
-          (ValidTenant now) test vs (r .each))) e in omega arith
+      go (some t) e = omega (arith, early-small test t e)
 
-  pub timer-found : timerFor (moment now) (pickFor never 0 vs (choose vs)) ≡ moment (timerOf (timer now vs (choose vs)))
+  timer-found : timerFor (moment now) (pickFor never 0 vs (choose vs)) ≡ moment (timerOf (timer now vs (choose vs)))
   unfolding timerFor timer
   timer-found = go (choose vs) refl
     where
@@ -192,8 +200,8 @@ module _ (now : ℕ) (vs : List Tenant) (l : now ≤ largestTime) (r : ValidTena
           earlier-min b none h = omega arith
           earlier-min b (some c) h = refl
 
-  pub holder-found : (z : Tunnel) → holderOf (idsOf vs) ((pickFor never 0 vs (choose vs)) .at) ≡ holderSaid (runs (choose vs))
-  holder-found z = ap (holderOf (idsOf vs)) seat-found ∙ go (choose vs) refl
+  holder-found : holderOf (idsOf vs) ((pickFor never 0 vs (choose vs)) .at) ≡ holderSaid (runs (choose vs))
+  holder-found = ap (holderOf (idsOf vs)) seat-found ∙ go (choose vs) refl
     where
       go : (o : Option Tenant) → choose vs ≡ o → holderOf (idsOf vs) (placeOf (runs o) vs) ≡ holderSaid (runs o)
       go none e = refl
@@ -211,9 +219,9 @@ module _ (now : ℕ) (vs : List Tenant) (l : now ≤ largestTime) (r : ValidTena
         ap (λ (q : List Vcpu). picks (idleWith never) 0 (take n q)) (f .places)
         ∙ ap (λ (k : ℕ). picks (idleWith never) 0 (take k (placesOf vs))) (f .count)
         ∙ ap (picks (idleWith never) 0) (laid-front written (written noTenant) 32 vs (r .few))
-        ∙ scan never 0 vs (omega arith) (omega (arith, r .few)) (calm now vs l (r .each)) (r .ranked) (r .distinct)
+        ∙ scan never 0 vs (omega arith) (omega (arith, r .few)) (calm now vs l (r .each) (r .sorted)) (r .ranked) (r .distinct)
 
-    pub core-found : (k : Pick) → k ≡ pickFor never 0 vs (choose vs)
+    core-found : (k : Pick) → k ≡ pickFor never 0 vs (choose vs)
         → _≡_ {A = Core} (record { places = p; last = moment now; ids = ids; timer = timerFor (moment now) k; running = k .at; n = n }) (coreOf
         (settled now vs))
     unfolding coreOf settled
@@ -256,7 +264,7 @@ pub turned-accepted : (c : Core) (now : Moment) (change : Change) → refusal (c
 unfolding turned turn
 turned-accepted c now change e = ap (λ (o : Option Row). answerOf (answered (card c) (callOf now change) o)) e
 
-pub turned-refused : (c : Core) (now : Moment) (change : Change) (x : Refusal) → ValidCore c → refusal (card c) (now .0) (asked change) ≡ some
+pub turned-refused : (c : Core) (now : Moment) (change : Change) (x : Refusal) → SoundCore c → refusal (card c) (now .0) (asked change) ≡ some
     (record { number = x .number; detail = x .detail })
     → record { core = c; reply = No x } ≡ turned c now change
 unfolding turned turn
@@ -264,7 +272,7 @@ turned-refused c now change x r e =
     ap (λ (d : Core). record { core = d; reply = No x }) (r .written)
     ∙ ap (λ (o : Option Row). answerOf (answered (card c) (callOf now change) o)) (sym e)
 
-pub answer-found : (now : Moment) (vs : List Tenant) → now .0 ≤ largestTime → ValidTenants (now .0) vs
+pub answer-found : (now : Moment) (vs : List Tenant) → now .0 ≤ largestTime → Between (now .0) vs
     → (p : List Vcpu) (ids : List Tunnel) (n : ℕ) → Filled p ids n vs
     → (k : Pick) → k ≡ pickFor never 0 vs (choose vs)
     → (t : Moment) → t ≡ timerFor now k → (h : Holder) → h ≡ holderOf ids (k .at) → (s : Timer) → s ≡ timerSaid (timerAt (t .0))
@@ -281,7 +289,7 @@ answer-found now vs l r p ids n f k e t te h he s se =
     (choose vs))) (k .usable) (amount (usableOf (choose vs))) s (timerSaid (timer (now .0) vs (choose vs)))
     (ap (λ (x : Moment). record { places = p; last = now; ids = ids; timer = x; running = k .at; n = n }) te ∙ core-found (now .0) vs l r p ids n f k e)
     (he ∙ ap (λ (x : Pick). holderOf ids (x .at)) e ∙ ap (λ (i : List Tunnel). holderOf i ((pickFor never 0 vs (choose vs)) .at)) (f .tunnels)
-    ∙ holder-found (now .0) vs l r (tunnel 0))
+    ∙ holder-found (now .0) vs l r)
     (ap (λ (x : Pick). x .usable) e ∙ usable-found (now .0) vs l r)
     (se ∙ ap (λ (x : Moment). timerSaid (timerAt (x .0))) (te ∙ ap (timerFor now) e) ∙ ap timerSaid (timer-said (now .0) vs l r))
   where
@@ -291,9 +299,13 @@ answer-found now vs l r p ids n f k e t te h he s se =
     same c c′ h h′ u u′ s s′ p q v w = rw (p, q, v, w)
 
 -- the empty card
-pub empty-valid : ValidCore (coreOf empty)
-unfolding settled timer
-empty-valid = core-valid 0 [] (omega arith) (record { few = omega arith; each = tt; ranked = tt; distinct = tt })
+empty-between : Between 0 []
+empty-between = record { few = omega arith; each = tt; sorted = tt; distinct = tt; ranked = tt }
 
-pub with-valid : (c : Core) → c ≡ coreOf empty → (c ≡ coreOf empty) × ValidCore c
-with-valid c e = (e, subst ValidCore (sym e) empty-valid)
+pub empty-shown : card (coreOf empty) ≡ empty
+unfolding settled timer
+empty-shown = shown-again 0 [] (omega arith) empty-between
+
+pub empty-sound : SoundCore (coreOf empty)
+unfolding settled timer
+empty-sound = core-sound 0 [] (omega arith) empty-between [] refl

@@ -3,7 +3,7 @@ use Prim.Native.Nat.{ℕ, zero, suc, _+_, _-_, _≤_, _<_}
 use mathlib.Core.Path.{_≡_, refl, ap, sym, _∙_, subst}
 use mathlib.Core.Bool.{Bool, true, false, cond, not, _||_}
 use mathlib.Core.List.{List, [], _∷_}
-use mathlib.Core.Option.{Option, none, some}
+use mathlib.Core.Option.{none}
 use native.Mathlib.Omega.{arith}
 use lib.Dec.{eqb}
 use lib.ListN.{length, getD, set}
@@ -20,22 +20,25 @@ use Rattle.rules.specs.Vcpu.{admitted, named}
 use Rattle.rules.specs.Vcpu.{Description as Terms}
 use Rattle.rules.specs.Vcpu.{Vcpu as Tenant}
 use Rattle.rules.specs.Card.{Card, onCard, toNamed}
-use Rattle.rules.specs.Charge.{charge, charged}
-use Rattle.rules.specs.Change.{placed, setRunnable}
+use Rattle.rules.specs.Change.{placed, setRunnable, admit, wake}
 use Rattle.rules.specs.Change.{change as changeRule}
-use Rattle.rules.specs.Turn.{afterCharge, afterReturn}
+use Rattle.rules.specs.Turn.{afterReturn}
 use Rattle.turns.specs.declared.Vcpu.{Vcpu}
 use Rattle.turns.specs.declared.Description.{Description}
 use Rattle.turns.specs.declared.Change.{Change}
 use Rattle.turns.specs.declared.Change.the-variants.{Admit, Wake, Block, Remove, Tick}
-use Rattle.turns.specs.State.{nobody, tunnelOf, written, noTenant, place, termsOf, ValidTenant, ValidTenants}
+use Rattle.turns.specs.Written.{nobody, tunnelOf, written, noTenant, place}
+use Rattle.turns.proofs.Invariant.{Ranked, Distinct, termsOf, Listed}
 use Rattle.turns.specs.Steps.{changedOf}
-use Rattle.turns.specs.Table.{rankOf, spotIn, inserted, removed}
+use Rattle.turns.specs.Table.{spotIn, inserted, removed}
 use Rattle.turns.specs.Calls.{described, asked}
 use Rattle.turns.proofs.Laid.{cutAt, laid-get, laid-put, laid-cut}
 use Rattle.turns.proofs.Places.{place-there, named-set, removed-cut, spotOf, spot-most, spot-laid, placed-put}
-use Rattle.turns.proofs.Valid.{all-weak, all-get, charged-terms, bring-terms, placed-length, placed-valid, keep-valid, tenants-set}
-use Rattle.turns.proofs.Rows.{idsOf, placeNamed, there, Fresh, fresh}
+use Rattle.turns.proofs.Ranked.{return-terms, named-terms, placed-ranked, keep-ranked}
+use Rattle.turns.proofs.Rows.{idsOf, placeNamed, there}
+use Rattle.rules.proofs.Accepted.{Admits, admits}
+use Rattle.rules.proofs.Advance.{rows-stepped}
+use Rattle.rules.proofs.Changed.{length-placed}
 use Rattle.turns.proofs.Stage.{placesOf, Filled, filled-set}
 
 -- what depends on the terms alone
@@ -58,44 +61,31 @@ length-terms : (vs : List Tenant) → length vs ≡ length (termsOf vs)
 length-terms [] = refl
 length-terms (v ∷ vs) = ap suc (length-terms vs)
 
-named-terms : (t : ℕ) (f : Tenant → Tenant) (vs : List Tenant) → ((v : Tenant) → f v .terms ≡ v .terms) → termsOf (toNamed t f vs) ≡ termsOf vs
-named-terms t f [] h = refl
-named-terms t f (v ∷ vs) h = go (named t v) ∙ ap (λ (l : List Terms). v .terms ∷ l) (named-terms t f vs h)
-  where
-    go : (b : Bool) → (cond b (f v) v) .terms ∷ termsOf (toNamed t f vs) ≡ v .terms ∷ termsOf (toNamed t f vs)
-    go true = ap (λ (d : Terms). d ∷ termsOf (toNamed t f vs)) (h v)
-    go false = refl
-
-charge-terms : (last now : ℕ) (o : Option ℕ) (vs : List Tenant) → termsOf (charge last now o vs) ≡ termsOf vs
-charge-terms last now none vs = refl
-charge-terms last now (some t) vs = named-terms t (charged last now) vs (charged-terms last now)
-
-return-terms : (k : Card) (now : ℕ) → termsOf (afterReturn k now) ≡ termsOf (k .vcpus)
-return-terms k now = bring-terms now (afterCharge k now) ∙ charge-terms (k .last) now (k .running) (k .vcpus)
-
-pub return-on : (k : Card) (now t : ℕ) → onCard t (afterReturn k now) ≡ onCard t (k .vcpus)
-return-on k now t = on-terms t (afterReturn k now) ∙ ap (onTerms t) (return-terms k now) ∙ sym (on-terms t (k .vcpus))
-
 pub return-place : (k : Card) (now t : ℕ) → place t (afterReturn k now) ≡ place t (k .vcpus)
 return-place k now t = place-terms t (afterReturn k now) ∙ ap (placeTerms t) (return-terms k now) ∙ sym (place-terms t (k .vcpus))
 
-pub return-length : (k : Card) (now : ℕ) → length (afterReturn k now) ≡ length (k .vcpus)
+return-length : (k : Card) (now : ℕ) → length (afterReturn k now) ≡ length (k .vcpus)
 return-length k now = length-terms (afterReturn k now) ∙ ap length (return-terms k now) ∙ sym (length-terms (k .vcpus))
 
+-- steps 1 and 2 leave the table's length and its identifiers
+pub return-listed : (k : Card) (now : ℕ) → Listed (k .vcpus) → Listed (afterReturn k now)
+return-listed k now l =
+    record { few = omega (arith, return-length k now, l .few); distinct = subst Distinct (sym (return-terms k now)) (l .distinct) }
+
 -- admit
-module _ (p : List Vcpu) (ids : List Tunnel) (n : ℕ) (vs : List Tenant) (now : ℕ) (f : Filled p ids n vs) (r : ValidTenants now vs) where
-  module _ (d : Description) (q : Fresh vs d) where
-    spot-is : spotIn (rankOf (d .priority) (d .tunnel .0)) n p ids ≡ spotOf (admitted (described d)) vs
+module _ (p : List Vcpu) (ids : List Tunnel) (n : ℕ) (vs : List Tenant) (f : Filled p ids n vs) (r : Listed vs) where
+  module _ (d : Description) (q : Admits vs (described d)) where
+    spot-is : spotIn (described d) n p ids ≡ spotOf (admitted (described d)) vs
     spot-is =
         rw (f .places, f .tunnels, f .count)
-        (spot-laid (admitted (described d)) (written noTenant) (tunnel nobody) 32 vs (q .tunnel) (all-weak vs (λ v g. g .terms .tunnel) (r .each)) (r .few))
+        (spot-laid (admitted (described d)) (written noTenant) (tunnel nobody) 32 vs (r .few))
 
-    pub spot-fits : spotIn (rankOf (d .priority) (d .tunnel .0)) n p ids ≤ 32
+    pub spot-fits : spotIn (described d) n p ids ≤ 32
     spot-fits = omega (arith, spot-is, spot-most (admitted (described d)) vs, r .few)
 
     pub admit-filled :
-        Filled (inserted (spotIn (rankOf (d .priority) (d .tunnel .0)) n p ids) (written (admitted (described d))) p)
-        (inserted (spotIn (rankOf (d .priority) (d .tunnel .0)) n p ids) (d .tunnel) ids) (n + 1) (placed (admitted (described d)) vs)
+        Filled (inserted (spotIn (described d) n p ids) (written (admitted (described d))) p)
+        (inserted (spotIn (described d) n p ids) (d .tunnel) ids) (n + 1) (placed (admitted (described d)) vs)
     admit-filled =
         record {
           places =
@@ -110,21 +100,8 @@ module _ (p : List Vcpu) (ids : List Tunnel) (n : ℕ) (vs : List Tenant) (now :
               ∙ laid-put tunnelOf (tunnel nobody) 32 vs (spotOf (admitted (described d)) vs) (admitted (described d)) (spot-most (admitted
               (described d)) vs) (q .room)
               ∙ ap idsOf (sym (placed-put (admitted (described d)) vs));
-          count = omega (arith, f .count, placed-length (admitted (described d)) vs);
+          count = omega (arith, f .count, length-placed (admitted (described d)) vs);
         }
-
-    pub admit-valid : ValidTenants now (placed (admitted (described d)) vs)
-    admit-valid =
-        placed-valid now (admitted (described d)) vs
-        (record {
-          terms = record { tunnel = q .tunnel; least = q .least; capacity = q .capacity; period = q .period };
-          few = omega arith;
-          whole = omega arith;
-          rising = tt;
-          near = tt;
-          used = omega arith;
-        })
-        (q .new) (q .room) r
 
   module _ (t at : ℕ) (e : at ≡ place t vs) (h : place t vs < length vs) where
     pub remove-filled : Filled (removed at (written noTenant) p) (removed at (tunnel nobody) ids) (n - 1) (keep (λ v. not (named t v)) vs)
@@ -148,27 +125,15 @@ module _ (p : List Vcpu) (ids : List Tunnel) (n : ℕ) (vs : List Tenant) (now :
         cut-length zero (x ∷ l) g = refl
         cut-length (suc i) (x ∷ l) g = ap suc (cut-length i l (omega arith))
 
-    pub remove-valid : ValidTenants now (keep (λ v. not (named t v)) vs)
-    remove-valid = keep-valid now (λ v. not (named t v)) vs r
-
     -- a mark set
-    pub mark-filled : (b : Bool) (z : Vcpu) → Filled (set p at (written (setRunnable b (getD vs (place t vs) noTenant)))) ids n (toNamed t (setRunnable b) vs)
+    mark-filled : (b : Bool) (z : Vcpu) → Filled (set p at (written (setRunnable b (getD vs (place t vs) noTenant)))) ids n (toNamed t (setRunnable b) vs)
     mark-filled b z =
         subst (λ (k : ℕ). Filled (set p k (written (setRunnable b (getD vs (place t vs) noTenant)))) ids n (toNamed t (setRunnable b) vs)) (sym e)
         (subst (Filled (set p (place t vs) (written (setRunnable b (getD vs (place t vs) noTenant)))) ids n) (sym (named-set t
         (setRunnable b) noTenant vs (r .distinct) h))
         (filled-set p ids n (place t vs) (setRunnable b (getD vs (place t vs) noTenant)) vs h (r .few) refl f))
 
-    pub mark-valid : (b : Bool) → ValidTenants now (toNamed t (setRunnable b) vs)
-    mark-valid b =
-        subst (ValidTenants now) (sym (named-set t (setRunnable b) noTenant vs (r .distinct) h))
-        (tenants-set now (place t vs) noTenant (setRunnable b (getD vs (place t vs) noTenant)) vs refl
-        (marked (getD vs (place t vs) noTenant) (all-get (ValidTenant now) vs (place t vs) noTenant (r .each) h)) r)
-      where
-        marked : (v : Tenant) → ValidTenant now v → ValidTenant now (setRunnable b v)
-        marked v g = record { terms = g .terms; few = g .few; whole = g .whole; rising = g .rising; near = g .near; used = g .used }
-
-    pub mark-read : (z : Vcpu) → getD p at z ≡ written (getD vs (place t vs) noTenant)
+    mark-read : (z : Vcpu) → getD p at z ≡ written (getD vs (place t vs) noTenant)
     mark-read z =
         ap (λ (k : ℕ). getD p k z) e
         ∙ ap (λ (q : List Vcpu). getD q (place t vs) z) (f .places)
@@ -196,32 +161,36 @@ never-tag n (inr e) (inl f) = omega arith
 never-tag n (inr e) (inr (inl f)) = omega arith
 never-tag n (inr e) (inr (inr f)) = omega arith
 
-module _ (k : Card) (now : ℕ) (p : List Vcpu) (ids : List Tunnel) (n : ℕ) (f : Filled p ids n (afterReturn k now)) (r : ValidTenants now
-    (afterReturn k now)) where
+-- what an accepted call asks for holds after steps 1 and 2 too
+module _ (k : Card) (now : ℕ) where
   pub named-place : (t : ℕ) → namingRows (k .vcpus) t ≡ none → place t (afterReturn k now) < length (afterReturn k now)
-  named-place t e = place-there t (afterReturn k now) (return-on k now t ∙ there (k .vcpus) t e)
+  named-place t e = place-there t (afterReturn k now) (there (afterReturn k now) t (rows-stepped k now (wake t) ∙ e))
 
-  pub fresh-after : (d : Description) → admitRows (k .vcpus) (described d) ≡ none → Fresh (afterReturn k now) d
-  fresh-after d e =
-      let q : Fresh (k .vcpus) d = fresh (k .vcpus) d e in
-      record {
-        tunnel = q .tunnel;
-        period = q .period;
-        least = q .least;
-        capacity = q .capacity;
-        new = return-on k now (d .tunnel .0) ∙ q .new;
-        room = omega (arith, return-length k now, q .room);
-      }
+  pub admits-after : (d : Description) → admitRows (k .vcpus) (described d) ≡ none → Admits (afterReturn k now) (described d)
+  admits-after d e = admits (afterReturn k now) (described d) (rows-stepped k now (admit (described d)) ∙ e)
 
+  pub change-ranked : (change : Change) → callRows (k .vcpus) (asked change) ≡ none → Ranked (termsOf (k .vcpus))
+      → Ranked (termsOf (changeRule (asked change) (afterReturn k now)))
+  change-ranked change e r = go change e (subst Ranked (sym (return-terms k now)) r)
+    where
+      go : (change : Change) → callRows (k .vcpus) (asked change) ≡ none → Ranked (termsOf (afterReturn k now))
+          → Ranked (termsOf (changeRule (asked change) (afterReturn k now)))
+      go (Admit d) m s = placed-ranked (admitted (described d)) (afterReturn k now) (admits-after d m .not-there) s
+      go (Wake t) m s = subst Ranked (sym (named-terms (t .0) (setRunnable true) (afterReturn k now) (λ v. refl))) s
+      go (Block t) m s = subst Ranked (sym (named-terms (t .0) (setRunnable false) (afterReturn k now) (λ v. refl))) s
+      go (Remove t) m s = keep-ranked (λ v. not (named (t .0) v)) (afterReturn k now) s
+      go Tick m s = s
+
+module _ (k : Card) (now : ℕ) (p : List Vcpu) (ids : List Tunnel) (n : ℕ) (f : Filled p ids n (afterReturn k now)) (r : Listed (afterReturn k now)) where
   marks : (t : Tunnel) (b : Bool) (at : ℕ) (z : Vcpu) (asks : Vcpu → Vcpu) → at ≡ place (t .0) (k .vcpus) → namingRows (k .vcpus) (t .0) ≡ none
       → ((v : Tenant) → asks (written v) ≡ written (setRunnable b v)) → Filled (set p at (asks (getD p at z))) ids n (toNamed (t .0) (setRunnable b)
       (afterReturn k now))
   marks t b at z asks e m g =
       let i : at ≡ place (t .0) (afterReturn k now) = e ∙ sym (return-place k now (t .0)) in
-      let h : place (t .0) (afterReturn k now) < length (afterReturn k now) = named-place (t .0) m in
+      let h : place (t .0) (afterReturn k now) < length (afterReturn k now) = named-place k now (t .0) m in
       subst (λ (v : Vcpu). Filled (set p at v) ids n (toNamed (t .0) (setRunnable b) (afterReturn k now)))
-      (sym (ap asks (mark-read p ids n (afterReturn k now) now f r (t .0) at i h z) ∙ g (getD (afterReturn k now) (place (t .0) (afterReturn k now)) noTenant)))
-      (mark-filled p ids n (afterReturn k now) now f r (t .0) at i h b z)
+      (sym (ap asks (mark-read p ids n (afterReturn k now) f r (t .0) at i h z) ∙ g (getD (afterReturn k now) (place (t .0) (afterReturn k now)) noTenant)))
+      (mark-filled p ids n (afterReturn k now) f r (t .0) at i h b z)
 
   pub plain-filled : (change : Change) (at : ℕ) (z : Vcpu) → OneOf (1 ∷ 2 ∷ 4 ∷ []) (tagOf the-type change) → callRows (k .vcpus)
       (asked change) ≡ none → at ≡ placeNamed change (k .vcpus)
@@ -232,13 +201,6 @@ module _ (k : Card) (now : ℕ) (p : List Vcpu) (ids : List Tunnel) (n : ℕ) (f
   plain-filled (Remove t) at z o m e = absurd (never-tag 3 (inr refl) o)
   plain-filled Tick at z o m e = subst (λ (q : List Vcpu). Filled q ids n (afterReturn k now)) (sym (ap (set p at) (tick-same (getD p at z))
       ∙ set-getD p at z)) f
-
-  pub change-valid : (change : Change) → callRows (k .vcpus) (asked change) ≡ none → ValidTenants now (changeRule (asked change) (afterReturn k now))
-  change-valid (Admit d) m = admit-valid p ids n (afterReturn k now) now f r d (fresh-after d m)
-  change-valid (Wake t) m = mark-valid p ids n (afterReturn k now) now f r (t .0) (place (t .0) (afterReturn k now)) refl (named-place (t .0) m) true
-  change-valid (Block t) m = mark-valid p ids n (afterReturn k now) now f r (t .0) (place (t .0) (afterReturn k now)) refl (named-place (t .0) m) false
-  change-valid (Remove t) m = remove-valid p ids n (afterReturn k now) now f r (t .0) (place (t .0) (afterReturn k now)) refl (named-place (t .0) m)
-  change-valid Tick m = r
 
 -- the place that an accepted call names is one of the 32
 pub place-small : (vs : List Tenant) (change : Change) → length vs ≤ 32 → callRows vs (asked change) ≡ none → placeNamed change vs < 32

@@ -6,13 +6,15 @@ use mathlib.Core.Bool.{true, false}
 use mathlib.Core.List.{List, [], _∷_, _++_, append-assoc, append-nil}
 use native.Mathlib.Omega.{arith}
 use native.Mathlib.Numerals.{add-one}
-use lib.Dec.{ltb, eqb}
+use lib.Dec.{eqb}
 use lib.ListN.{length, take, drop, getD, set, drop-of-length-le}
 use lib.Seq.{drop-cons, take-suc-set, drop-set-lt, take-all, set-split}
 use Rattle.units.specs.Units.{tunnel}
 use Rattle.units.specs.declared.Tunnel.{Tunnel}
+use Rattle.rules.specs.Vcpu.{moreUrgent}
+use Rattle.rules.specs.Vcpu.{Description as Terms}
 use Rattle.turns.specs.declared.Vcpu.{Vcpu}
-use Rattle.turns.specs.Table.{seek, rankOf, spotIn, inserted, removed}
+use Rattle.turns.specs.Table.{seek, urgency, spotIn, inserted, removed}
 
 module _ (t : ℕ) (l : List Tunnel) (k : ℕ) (h : k < length l) where
   pub seek-here : eqb (getD l k (tunnel 0) .0) t ≡ true → seek t (drop k l) ≡ 0
@@ -21,15 +23,15 @@ module _ (t : ℕ) (l : List Tunnel) (k : ℕ) (h : k < length l) where
   pub seek-on : eqb (getD l k (tunnel 0) .0) t ≡ false → k + seek t (drop k l) ≡ k + 1 + seek t (drop (k + 1) l)
   seek-on e = rw (drop-cons l k (tunnel 0), e, add-one) (omega arith)
 
-module _ (m n : ℕ) (vs : List Vcpu) (ts : List Tunnel) (z : Vcpu) (k : ℕ) (i : k < n) (h : k < length vs) (g : k < length ts) where
+module _ (d : Terms) (n : ℕ) (vs : List Vcpu) (ts : List Tunnel) (z : Vcpu) (k : ℕ) (i : k < n) (h : k < length vs) (g : k < length ts) where
   left : n - k ≡ suc (n - (k + 1))
   left = omega arith
 
-  pub spot-here : ltb m (rankOf (getD vs k z .priority) (getD ts k (tunnel 0) .0)) ≡ true → spotIn m (n - k) (drop k vs) (drop k ts) ≡ 0
+  pub spot-here : moreUrgent d (urgency (getD vs k z .priority) (getD ts k (tunnel 0) .0)) ≡ true → spotIn d (n - k) (drop k vs) (drop k ts) ≡ 0
   spot-here e = rw (left, drop-cons vs k z, drop-cons ts k (tunnel 0), e)
 
-  pub spot-on : ltb m (rankOf (getD vs k z .priority) (getD ts k (tunnel 0) .0)) ≡ false
-      → k + spotIn m (n - k) (drop k vs) (drop k ts) ≡ k + 1 + spotIn m (n - (k + 1)) (drop (k + 1) vs) (drop (k + 1) ts)
+  pub spot-on : moreUrgent d (urgency (getD vs k z .priority) (getD ts k (tunnel 0) .0)) ≡ false
+      → k + spotIn d (n - k) (drop k vs) (drop k ts) ≡ k + 1 + spotIn d (n - (k + 1)) (drop (k + 1) vs) (drop (k + 1) ts)
   spot-on e = rw (left, drop-cons vs k z, drop-cons ts k (tunnel 0), e, add-one) (omega arith)
 
 module _ {A : Type 0} where
@@ -67,8 +69,8 @@ module _ {A : Type 0} where
   pub remove-end : (l : List A) (k : ℕ) (z : A) → length l ≡ suc k → set l k z ≡ take k l ++ (drop (suc k) l ++ z ∷ [])
   remove-end l k z h = rw (set-split l k z (omega arith), drop-of-length-le l {i = suc k} (omega arith))
 
-pub spot-start : (m n : ℕ) (vs : List Vcpu) (ts : List Tunnel) → spotIn m n vs ts ≡ 0 + spotIn m (n - 0) (drop 0 vs) (drop 0 ts)
-spot-start m n vs ts = let e : n - 0 ≡ n = omega arith in rw e (omega arith)
+pub spot-start : (d : Terms) (n : ℕ) (vs : List Vcpu) (ts : List Tunnel) → spotIn d n vs ts ≡ 0 + spotIn d (n - 0) (drop 0 vs) (drop 0 ts)
+spot-start d n vs ts = let e : n - 0 ≡ n = omega arith in rw e (omega arith)
 
-pub spot-end : (m n : ℕ) (vs : List Vcpu) (ts : List Tunnel) (k : ℕ) → n ≡ k → k + spotIn m (n - k) (drop k vs) (drop k ts) ≡ k
-spot-end m n vs ts k h = let e : n - k ≡ 0 = omega arith in rw e (omega arith)
+pub spot-end : (d : Terms) (n : ℕ) (vs : List Vcpu) (ts : List Tunnel) (k : ℕ) → n ≡ k → k + spotIn d (n - k) (drop k vs) (drop k ts) ≡ k
+spot-end d n vs ts k h = let e : n - k ≡ 0 = omega arith in rw e (omega arith)

@@ -1,8 +1,8 @@
--- The stages of an accepted call on the written table: what is charged, that the table after each step is the rules' list written,
--- and that what holds between calls holds of it. Assumes nothing.
+-- An accepted call on the written table: the verdict is the rules', and the table after the charge is the rules' list written, whose
+-- numbers fit. Assumes nothing.
 use Prim.Native.Nat.{ℕ, zero, suc, _+_, _-_, _≤_, _<_}
 use mathlib.Core.Path.{_≡_, refl, ap, sym, _∙_, subst}
-use mathlib.Core.Bool.{Bool, true, false, cond, _&&_}
+use mathlib.Core.Bool.{Bool, true, false, cond}
 use mathlib.Core.List.{List, [], _∷_}
 use mathlib.Core.Option.{Option, none, some}
 use native.Mathlib.Omega.{arith}
@@ -16,24 +16,30 @@ use Rattle.units.specs.declared.Tunnel.{Tunnel}
 use Rattle.rules.specs.Lists.{keep, sum, All}
 use Rattle.rules.specs.Vcpu.{Description, Entry, moreUrgent}
 use Rattle.rules.specs.Vcpu.{Vcpu as Tenant}
-use Rattle.rules.specs.Card.{Card}
 use Rattle.rules.specs.Charge.{charged, charge}
 use Rattle.rules.specs.Choose.{ready, better, mostUrgent, choose, runs}
-use Rattle.rules.specs.Timer.{earlier, earliest, returns, timer}
+use Rattle.rules.specs.Timer.{timer}
 use Rattle.rules.specs.Turn.{settled, afterCharge}
+use Rattle.rules.specs.Limits.{mostPending}
+use Rattle.rules.specs.History.{holds as isHeldBy}
 use Rattle.rules.proofs.Tests.{no-some}
+use Rattle.rules.proofs.Lists.{all-imp}
+use Rattle.rules.proofs.Sound.{Sound, kept-charged}
+use Rattle.rules.proofs.Advance.{terms-stepped}
+use Rattle.rules.proofs.Accepted.{Passed, in-time}
 use Rattle.turns.specs.declared.Vcpu.{Vcpu}
 use Rattle.turns.specs.declared.Core.{Core}
 use Rattle.turns.specs.declared.Change.{Change}
 use Rattle.turns.specs.Laid.{laid}
-use Rattle.turns.specs.State.{idle, nobody, amountOf, tunnelOf, written, noTenant, card, coreOf, place, placeOf, timerOf, tenants, Distinct, termsOf, ValidTenant, ValidTenants, ValidCore}
+use Rattle.turns.specs.Written.{idle, nobody, amountOf, tunnelOf, written, noTenant, card, coreOf, place, placeOf, timerOf, tenants}
+use Rattle.turns.proofs.Invariant.{Distinct, termsOf, Fits, SoundCore, between, card-reached, kept-fits}
 use Rattle.turns.specs.Steps.{chargedOf, Chargeable}
 use Rattle.turns.proofs.Laid.{laid-get, laid-set}
-use Rattle.turns.proofs.State.{tenants-laid}
+use Rattle.turns.proofs.Written.{tenants-laid}
 use Rattle.turns.proofs.Places.{named-set}
 use Rattle.turns.proofs.Charge.{charged-same}
-use Rattle.turns.proofs.Valid.{all-weak, all-get, charged-valid, charged-terms, tenants-later, tenants-set}
-use Rattle.turns.proofs.Rows.{idsOf, Met, verdictOf, placeNamed, judge-same}
+use Rattle.turns.proofs.Ranked.{all-get, all-set}
+use Rattle.turns.proofs.Rows.{idsOf, verdictOf, placeNamed, judge-same}
 use Rattle.rules.specs.Refuse.{refusal}
 use Rattle.rules.specs.Refuse.{Refusal as Row}
 use Rattle.turns.specs.declared.Refusal.{Refusal}
@@ -56,8 +62,11 @@ pub filled-tenants : (p : List Vcpu) (ids : List Tunnel) (n : ℕ) (vs : List Te
 filled-tenants p ids n vs few each f =
     rw (f .places, f .tunnels, f .count) (tenants-laid (tunnel nobody) (written noTenant) 32 vs few each)
 
-pub small : (now : ℕ) (vs : List Tenant) → ValidTenants now vs → All (λ v. length (v .pending) ≤ 8) vs
-small now vs r = all-weak vs (λ v g. g .few) (r .each)
+pub small : (vs : List Tenant) → All Fits vs → All (λ v. length (v .pending) ≤ mostPending) vs
+small vs r = all-imp (λ v g. g .few) vs r
+
+pub all-fit : (last : ℕ) (vs : List Tenant) → All (Sound last) vs → All Fits vs
+all-fit last vs h = all-imp (λ v g. kept-fits (suc last) (last + v .terms .period) last v g) vs h
 
 -- setting a tenant under its own identifier
 pub filled-set : (p : List Vcpu) (ids : List Tunnel) (n i : ℕ) (x : Tenant) (vs : List Tenant) → i < length vs → length vs ≤ 32
@@ -118,7 +127,7 @@ chosen-at test (v ∷ vs) w d e = go (test v) e (λ u. chosen-at test vs u (d .1
     go false f rec = further w (rec w f)
 
 -- what the fields of a valid core are
-module _ (c : Core) (r : ValidCore c) where
+module _ (c : Core) (r : SoundCore c) where
   pub places-are : c .places ≡ placesOf (card c .vcpus)
   unfolding coreOf
   places-are = ap (λ (d : Core). d .places) (r .written)
@@ -131,15 +140,15 @@ module _ (c : Core) (r : ValidCore c) where
   unfolding coreOf
   n-is = ap (λ (d : Core). d .n) (r .written)
 
-  pub last-is : c .last ≡ moment (card c .last)
+  last-is : c .last ≡ moment (card c .last)
   unfolding coreOf
   last-is = ap (λ (d : Core). d .last) (r .written)
 
-  pub timer-is : c .timer ≡ moment (timerOf (card c .timer))
+  timer-is : c .timer ≡ moment (timerOf (card c .timer))
   unfolding coreOf
   timer-is = ap (λ (d : Core). d .timer) (r .written)
 
-  pub running-is : c .running ≡ placeOf (card c .running) (card c .vcpus)
+  running-is : c .running ≡ placeOf (card c .running) (card c .vcpus)
   unfolding coreOf
   running-is = ap (λ (d : Core). d .running) (r .written)
 
@@ -147,12 +156,7 @@ module _ (c : Core) (r : ValidCore c) where
   filled = record { places = places-are; tunnels = ids-are; count = n-is }
 
   seat-is : card c .running ≡ runs (choose (card c .vcpus))
-  unfolding settled
-  seat-is = ap (λ (k : Card). k .running) (r .card .settled)
-
-  pub timer-rule : card c .timer ≡ timer (card c .last) (card c .vcpus) (choose (card c .vcpus))
-  unfolding settled
-  timer-rule = ap (λ (k : Card). k .timer) (r .card .settled)
+  seat-is = card-reached c r .settled .runs-chosen
 
 -- who is charged
 pub record Runs (c : Core) (w : Tenant) : Type 0 where
@@ -165,7 +169,7 @@ pub data Holds (c : Core) : Type 0 where
   held : (w : Tenant) → Runs c w → Holds c
   idles : card c .running ≡ none → c .running ≡ idle → Holds c
 
-pub holds : (c : Core) → ValidCore c → Holds c
+pub holds : (c : Core) → SoundCore c → Holds c
 holds c r = go (choose (card c .vcpus)) refl
   where
     go : (o : Option Tenant) → choose (card c .vcpus) ≡ o → Holds c
@@ -179,7 +183,7 @@ holds c r = go (choose (card c .vcpus)) refl
           seat = s;
           chosen = e;
           place = running-is c r ∙ ap (λ (x : Option ℕ). placeOf x (card c .vcpus)) s;
-          at = chosen-at ready (card c .vcpus) w (r .card .tenants .distinct) e;
+          at = chosen-at ready (card c .vcpus) w (between c r .distinct) e;
         })
 
 -- a slot holds no more than the sum
@@ -192,32 +196,29 @@ slot-most (suc k) zero (e ∷ q) = omega arith
 slot-most (suc k) (suc i) (e ∷ q) = omega (arith, slot-most k i q)
 
 -- the charge of the one that holds the core
-module _ (c : Core) (r : ValidCore c) (now : Moment) (change : Change) (m : Met (card c) (now .0) change) (w : Tenant) (h : Runs c w) where
-  sound : ValidTenant (card c .last) w
+module _ (c : Core) (r : SoundCore c) (now : Moment) (change : Change) (m : Passed (card c) (now .0) (asked change)) (w : Tenant) (h : Runs c w) where
+  sound : Sound (card c .last) w
   sound =
-      subst (ValidTenant (card c .last)) (h .at .is)
-      (all-get (ValidTenant (card c .last)) (card c .vcpus) (place (w .terms .tunnel) (card c .vcpus)) noTenant (r .card .tenants .each) (h .at .inside))
+      subst (Sound (card c .last)) (h .at .is)
+      (all-get (Sound (card c .last)) (card c .vcpus) (place (w .terms .tunnel) (card c .vcpus)) noTenant (between c r .each) (h .at .inside))
 
   enough : now .0 - card c .last ≤ w .usable
-  unfolding timer
   enough =
-      let t : timerOf (card c .timer) ≡ earlier (card c .last + w .usable) (earliest (returns (keep (λ x. x .runnable && moreUrgent (x .terms)
-      (w .terms)) (card c .vcpus))))
-      = ap timerOf (timer-rule c r ∙ ap (timer (card c .last) (card c .vcpus)) (h .chosen)) in
-      omega (arith, m .timely, most (earliest (returns (keep (λ x. x .runnable && moreUrgent (x .terms) (w .terms)) (card c .vcpus)))))
-    where
-      most : (o : Option ℕ) → earlier (card c .last + w .usable) o ≤ card c .last + w .usable
-      most none = omega arith
-      most (some b) = omega arith
+      let f : isHeldBy (w .terms .tunnel) (card c .running) ≡ true → now .0 ≤ card c .last + w .usable
+      = subst (λ (x : Tenant). isHeldBy (x .terms .tunnel) (card c .running) ≡ true → now .0 ≤ card c .last + x .usable) (h .at .is)
+      (all-get (λ x. isHeldBy (x .terms .tunnel) (card c .running) ≡ true → now .0 ≤ card c .last + x .usable) (card c .vcpus)
+      (place (w .terms .tunnel) (card c .vcpus)) noTenant
+      (in-time (card c) (now .0) (card-reached c r .settled) (card-reached c r .lawful .once) (m .not-late)) (h .at .inside)) in
+      omega (arith, f (ap (isHeldBy (w .terms .tunnel)) (h .seat) ∙ eq-eqb (w .terms .tunnel) (w .terms .tunnel) refl))
 
   inside : place (w .terms .tunnel) (card c .vcpus) < length (card c .vcpus)
   inside = h .at .inside
 
-  pub held-record : (z : Vcpu) → getD (c .places) (c .running) z ≡ written w
+  held-record : (z : Vcpu) → getD (c .places) (c .running) z ≡ written w
   held-record z =
       ap (λ (p : List Vcpu). getD p (c .running) z) (places-are c r)
       ∙ ap (λ (i : ℕ). getD (placesOf (card c .vcpus)) i z) (h .place)
-      ∙ laid-get written (written noTenant) 32 (card c .vcpus) (place (w .terms .tunnel) (card c .vcpus)) noTenant z (h .at .inside) (r .card .tenants .few)
+      ∙ laid-get written (written noTenant) 32 (card c .vcpus) (place (w .terms .tunnel) (card c .vcpus)) noTenant z (h .at .inside) (between c r .few)
       ∙ ap written (h .at .is)
 
   chargeable : Chargeable (written w) (moment (card c .last)) now
@@ -225,9 +226,9 @@ module _ (c : Core) (r : ValidCore c) (now : Moment) (change : Change) (m : Met 
   chargeable =
       record {
         few = sound .few;
-        onward = m .onward;
+        onward = m .not-before;
         enough = enough;
-        fits = λ k. omega (arith, slot-most 8 k (w .pending), sound .whole, sound .terms .capacity, sound .terms .period);
+        fits = λ k. omega (arith, slot-most 8 k (w .pending), sound .whole, sound .range .capacity-high, sound .range .period-high);
       }
 
   pub held-chargeable : (z : Vcpu) → Chargeable (getD (c .places) (c .running) z) (c .last) now
@@ -236,18 +237,29 @@ module _ (c : Core) (r : ValidCore c) (now : Moment) (change : Change) (m : Met 
   charge-set : afterCharge (card c) (now .0) ≡ set (card c .vcpus) (place (w .terms .tunnel) (card c .vcpus)) (charged (card c .last) (now .0) w)
   charge-set =
       ap (λ (o : Option ℕ). charge (card c .last) (now .0) o (card c .vcpus)) (h .seat)
-      ∙ named-set (w .terms .tunnel) (charged (card c .last) (now .0)) noTenant (card c .vcpus) (r .card .tenants .distinct) (h .at .inside)
+      ∙ named-set (w .terms .tunnel) (charged (card c .last) (now .0)) noTenant (card c .vcpus) (between c r .distinct) (h .at .inside)
       ∙ ap (λ (x : Tenant). set (card c .vcpus) (place (w .terms .tunnel) (card c .vcpus)) (charged (card c .last) (now .0) x)) (h .at .is)
 
-  terms-kept : charged (card c .last) (now .0) w .terms ≡ getD (card c .vcpus) (place (w .terms .tunnel) (card c .vcpus)) noTenant .terms
-  terms-kept = charged-terms (card c .last) (now .0) w ∙ ap (λ (x : Tenant). x .terms) (sym (h .at .is))
+  charged-terms : charged (card c .last) (now .0) w .terms ≡ w .terms
+  charged-terms =
+      ap (λ (b : Bool). (cond b (charged (card c .last) (now .0) w) w) .terms) (sym (eq-eqb (w .terms .tunnel) (w .terms .tunnel) refl))
+      ∙ terms-stepped (card c .last) (now .0) (some (w .terms .tunnel)) w
 
-  pub charge-valid : ValidTenants (now .0) (afterCharge (card c) (now .0))
-  charge-valid =
-      subst (ValidTenants (now .0)) (sym charge-set)
-      (tenants-set (now .0) (place (w .terms .tunnel) (card c .vcpus)) noTenant (charged (card c .last) (now .0) w) (card c .vcpus) terms-kept
-      (charged-valid (card c .last) (now .0) w sound (m .onward) enough)
-      (tenants-later (card c .last) (now .0) (card c .vcpus) (m .onward) (r .card .tenants)))
+  terms-kept : charged (card c .last) (now .0) w .terms ≡ getD (card c .vcpus) (place (w .terms .tunnel) (card c .vcpus)) noTenant .terms
+  terms-kept = charged-terms ∙ ap (λ (x : Tenant). x .terms) (sym (h .at .is))
+
+  charged-fits : Fits (charged (card c .last) (now .0) w)
+  charged-fits =
+      let n : card c .last + (now .0 - card c .last) ≡ now .0 = omega (arith, m .not-before) in
+      subst (λ (x : ℕ). Fits (charged (card c .last) x w)) n
+      (kept-fits (suc (card c .last)) (card c .last + w .terms .period) (card c .last + (now .0 - card c .last)) _
+      (kept-charged (card c .last) (now .0 - card c .last) w enough sound))
+
+  pub charge-fits : All Fits (afterCharge (card c) (now .0))
+  charge-fits =
+      subst (All Fits) (sym charge-set)
+      (all-set Fits (card c .vcpus) (place (w .terms .tunnel) (card c .vcpus)) (charged (card c .last) (now .0) w)
+      (all-fit (card c .last) (card c .vcpus) (between c r .each)) charged-fits)
 
   pub charge-filled : (z : Vcpu) → Filled (set (c .places) (c .running) (chargedOf (getD (c .places) (c .running) z) (c .last) now)) (c .ids) (c .n)
       (afterCharge (card c) (now .0))
@@ -256,11 +268,11 @@ module _ (c : Core) (r : ValidCore c) (now : Moment) (change : Change) (m : Met 
       (subst (Filled (set (c .places) (place (w .terms .tunnel) (card c .vcpus)) (written (charged (card c .last) (now .0) w))) (c .ids) (c .n))
       (sym charge-set)
       (filled-set (c .places) (c .ids) (c .n) (place (w .terms .tunnel) (card c .vcpus)) (charged (card c .last) (now .0) w) (card c .vcpus)
-      (h .at .inside) (r .card .tenants .few) (ap (λ (d : Description). d .tunnel) terms-kept) (filled c r)))
+      (h .at .inside) (between c r .few) (ap (λ (d : Description). d .tunnel) terms-kept) (filled c r)))
     where
       written-charge : chargedOf (written w) (moment (card c .last)) now ≡ written (charged (card c .last) (now .0) w)
-      written-charge = charged-same (card c .last) (now .0 - card c .last) w (sound .few) (omega (arith, m .time, m .onward, sound .terms .period))
-          (now .0) (m .onward) refl
+      written-charge = charged-same (card c .last) (now .0 - card c .last) w (sound .few) (omega (arith, m .not-above, m .not-before, sound .range .period-high))
+          (now .0) (m .not-before) refl
 
       same : set (c .places) (c .running) (chargedOf (getD (c .places) (c .running) z) (c .last) now) ≡ set (c .places) (place (w .terms .tunnel)
           (card c .vcpus)) (written (charged (card c .last) (now .0) w))
@@ -271,27 +283,27 @@ module _ (c : Core) (r : ValidCore c) (now : Moment) (change : Change) (m : Met 
           ∙ ap (λ (i : ℕ). set (c .places) i (written (charged (card c .last) (now .0) w))) (h .place)
 
 -- in idle nobody is charged
-module _ (c : Core) (r : ValidCore c) (now : Moment) (change : Change) (m : Met (card c) (now .0) change) (e : card c .running ≡ none) where
+module _ (c : Core) (r : SoundCore c) (now : Moment) (change : Change) (m : Passed (card c) (now .0) (asked change)) (e : card c .running ≡ none) where
   idle-charge : afterCharge (card c) (now .0) ≡ card c .vcpus
   idle-charge = ap (λ (o : Option ℕ). charge (card c .last) (now .0) o (card c .vcpus)) e
 
-  pub idle-valid : ValidTenants (now .0) (afterCharge (card c) (now .0))
-  idle-valid = subst (ValidTenants (now .0)) (sym idle-charge) (tenants-later (card c .last) (now .0) (card c .vcpus) (m .onward) (r .card .tenants))
+  pub idle-fits : All Fits (afterCharge (card c) (now .0))
+  idle-fits = subst (All Fits) (sym idle-charge) (all-fit (card c .last) (card c .vcpus) (between c r .each))
 
   pub idle-filled : Filled (c .places) (c .ids) (c .n) (afterCharge (card c) (now .0))
   idle-filled = subst (Filled (c .places) (c .ids) (c .n)) (sym idle-charge) (filled c r)
 
 -- the verdict on a valid core
-judged-card : (c : Core) (now : Moment) (change : Change) → ValidCore c
+judged-card : (c : Core) (now : Moment) (change : Change) → SoundCore c
     → judge (c .last) (c .timer) (c .ids) (c .n) now change ≡ verdictOf (refusal (card c) (now .0) (asked change)) (placeNamed change (card c .vcpus))
 judged-card c now change r =
     ap (λ (l : Moment). judge l (c .timer) (c .ids) (c .n) now change) (last-is c r)
     ∙ ap (λ (t : Moment). judge (moment (card c .last)) t (c .ids) (c .n) now change) (timer-is c r)
     ∙ ap (λ (i : List Tunnel). judge (moment (card c .last)) (moment (timerOf (card c .timer))) i (c .n) now change) (ids-are c r)
     ∙ ap (λ (n : ℕ). judge (moment (card c .last)) (moment (timerOf (card c .timer))) (idsOf (card c .vcpus)) n now change) (n-is c r)
-    ∙ judge-same (card c) now change (r .card .tenants .few)
+    ∙ judge-same (card c) now change (between c r .few)
 
-pub accepted-call : (c : Core) (now : Moment) (change : Change) (v : Verdict) (at : ℕ) → ValidCore c → v ≡ judge (c .last) (c .timer) (c .ids)
+pub accepted-call : (c : Core) (now : Moment) (change : Change) (v : Verdict) (at : ℕ) → SoundCore c → v ≡ judge (c .last) (c .timer) (c .ids)
     (c .n) now change → v ≡ Go at
     → (refusal (card c) (now .0) (asked change) ≡ none) × (at ≡ placeNamed change (card c .vcpus))
 accepted-call c now change v at r e g = go (refusal (card c) (now .0) (asked change)) (sym g ∙ e ∙ judged-card c now change r)
@@ -300,7 +312,7 @@ accepted-call c now change v at r e g = go (refusal (card c) (now .0) (asked cha
     go none f = (refl, cc)
     go (some x) f = let z : _≡_ {A = ℕ} 0 1 = cc in absurd (omega arith)
 
-pub refused-call : (c : Core) (now : Moment) (change : Change) (v : Verdict) (x : Refusal) → ValidCore c → v ≡ judge (c .last) (c .timer) (c .ids)
+pub refused-call : (c : Core) (now : Moment) (change : Change) (v : Verdict) (x : Refusal) → SoundCore c → v ≡ judge (c .last) (c .timer) (c .ids)
     (c .n) now change → v ≡ Refuse x
     → refusal (card c) (now .0) (asked change) ≡ some (record { number = x .number; detail = x .detail })
 refused-call c now change v x r e g = go (refusal (card c) (now .0) (asked change)) (sym g ∙ e ∙ judged-card c now change r)

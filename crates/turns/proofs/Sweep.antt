@@ -13,18 +13,19 @@ use borrow.Author.Tests.{ltb-true, not-false}
 use Rattle.units.specs.Units.{tunnel}
 use Rattle.units.specs.declared.Moment.{Moment}
 use Rattle.units.specs.declared.Tunnel.{Tunnel}
-use Rattle.rules.specs.Lists.{sum}
+use Rattle.rules.specs.Lists.{All, sum}
 use Rattle.rules.specs.Limits.{largestTime}
 use Rattle.rules.specs.Vcpu.{Vcpu as Tenant}
 use Rattle.rules.specs.Return.{returned, bring}
 use Rattle.turns.specs.declared.Vcpu.{Vcpu}
 use Rattle.turns.specs.Laid.{laid}
-use Rattle.turns.specs.State.{nobody, tunnelOf, written, noTenant, tenants, ValidTenant, ValidTenants}
+use Rattle.turns.specs.Written.{nobody, tunnelOf, written, noTenant, tenants}
+use Rattle.turns.proofs.Invariant.{Fits}
 use Rattle.turns.specs.Steps.{headOf, bare, Returnable}
 use Rattle.turns.proofs.Laid.{laid-get, laid-set}
-use Rattle.turns.proofs.State.{under, shown-written}
+use Rattle.turns.proofs.Written.{under, shown-written}
 use Rattle.turns.proofs.Return.{head-written, returned-none}
-use Rattle.turns.proofs.Valid.{all-get, bring-valid, bring-length}
+use Rattle.turns.proofs.Ranked.{all-get}
 use Rattle.turns.proofs.Stage.{placesOf, Filled, filled-tenants, small}
 
 module _ {A : Type 0} (f : A → A) where
@@ -34,48 +35,48 @@ module _ {A : Type 0} (f : A → A) where
   upto (suc i) [] = []
   upto (suc i) (x ∷ l) = f x ∷ upto i l
 
-  pub upto-length : (i : ℕ) (l : List A) → length (upto i l) ≡ length l
+  upto-length : (i : ℕ) (l : List A) → length (upto i l) ≡ length l
   upto-length zero l = refl
   upto-length (suc i) [] = refl
   upto-length (suc i) (x ∷ l) = ap suc (upto-length i l)
 
-  pub upto-get : (i : ℕ) (l : List A) (z : A) → getD (upto i l) i z ≡ getD l i z
+  upto-get : (i : ℕ) (l : List A) (z : A) → getD (upto i l) i z ≡ getD l i z
   upto-get zero l z = refl
   upto-get (suc i) [] z = refl
   upto-get (suc i) (x ∷ l) z = upto-get i l z
 
-  pub upto-set : (i : ℕ) (l : List A) (z : A) → i < length l → set (upto i l) i (f (getD l i z)) ≡ upto (suc i) l
+  upto-set : (i : ℕ) (l : List A) (z : A) → i < length l → set (upto i l) i (f (getD l i z)) ≡ upto (suc i) l
   upto-set i [] z h = absurd (omega arith)
   upto-set zero (x ∷ l) z h = refl
   upto-set (suc i) (x ∷ l) z h = ap (λ (r : List A). f x ∷ r) (upto-set i l z (omega arith))
 
-  pub upto-all : (l : List A) → upto (length l) l ≡ map f l
+  upto-all : (l : List A) → upto (length l) l ≡ map f l
   upto-all [] = refl
   upto-all (x ∷ l) = ap (λ (r : List A). f x ∷ r) (upto-all l)
 
 -- at the loop's head
 pub record Sweeping (now : Moment) (ids : List Tunnel) (n : ℕ) (p₀ p : List Vcpu) (i : ℕ) : Type 0 where
   pub filled : Filled p₀ ids n (tenants n ids p₀)
-  pub valid : ValidTenants (now .0) (tenants n ids p₀)
+  pub fits : All Fits (tenants n ids p₀)
   pub time : now .0 ≤ largestTime
   pub done : p ≡ placesOf (upto (returned (now .0)) i (tenants n ids p₀))
   pub most : i ≤ n
   pub few : n ≤ 32
 
-pub sweep-start : (now : Moment) (ids : List Tunnel) (n : ℕ) (p : List Vcpu) (vs : List Tenant) → now .0 ≤ largestTime → Filled p ids n vs
-    → ValidTenants (now .0) vs → Sweeping now ids n p p 0
-sweep-start now ids n p vs h f r =
-    let e : tenants n ids p ≡ vs = filled-tenants p ids n vs (r .few) (small (now .0) vs r) f in
+pub sweep-start : (now : Moment) (ids : List Tunnel) (n : ℕ) (p : List Vcpu) (vs : List Tenant) → now .0 ≤ largestTime → n ≤ 32 → Filled p ids n vs
+    → All Fits vs → Sweeping now ids n p p 0
+sweep-start now ids n p vs h l f r =
+    let e : tenants n ids p ≡ vs = filled-tenants p ids n vs (omega (arith, f .count)) (small vs r) f in
     record {
       filled = subst (Filled p ids n) (sym e) f;
-      valid = subst (ValidTenants (now .0)) (sym e) r;
+      fits = subst (All Fits) (sym e) r;
       time = h;
       done = f .places ∙ ap placesOf (sym e);
       most = omega arith;
-      few = omega (arith, f .count, r .few);
+      few = l;
     }
 
-module _ (now : Moment) (x : Tenant) (h : now .0 ≤ largestTime) (r : ValidTenant (now .0) x) where
+module _ (now : Moment) (x : Tenant) (h : now .0 ≤ largestTime) (r : Fits x) where
   bared : bare (written x) ≡ under 0 x
   bared = shown-written (tunnel 0) x (r .few)
 
@@ -89,7 +90,7 @@ module _ (now : Moment) (x : Tenant) (h : now .0 ≤ largestTime) (r : ValidTena
         written = sym (ap written bared ∙ rewritten);
         few = subst (λ (v : Tenant). length (v .pending) ≤ 8) (sym bared) (r .few);
         fits = subst (λ (v : Tenant). v .usable + sum (λ e. e .amount) (v .pending) < 4294967296) (sym bared) (omega
-            (arith, r .whole, r .terms .capacity, r .terms .period));
+            (arith, r .whole, r .range .capacity-high, r .range .period-high));
         time = omega arith;
       }
 
@@ -107,13 +108,13 @@ module _ (now : Moment) (ids : List Tunnel) (n : ℕ) (p₀ p : List Vcpu) (i : 
   inside = omega (arith, s .filled .count)
 
   long : length (upto (returned (now .0)) i (tenants n ids p₀)) ≤ 32
-  long = omega (arith, upto-length (returned (now .0)) i (tenants n ids p₀), s .valid .few)
+  long = omega (arith, upto-length (returned (now .0)) i (tenants n ids p₀), s .filled .count, s .few)
 
   reaches : i < length (upto (returned (now .0)) i (tenants n ids p₀))
   reaches = omega (arith, upto-length (returned (now .0)) i (tenants n ids p₀), inside)
 
-  sound : ValidTenant (now .0) (getD (tenants n ids p₀) i noTenant)
-  sound = all-get (ValidTenant (now .0)) (tenants n ids p₀) i noTenant (s .valid .each) inside
+  sound : Fits (getD (tenants n ids p₀) i noTenant)
+  sound = all-get Fits (tenants n ids p₀) i noTenant (s .fits) inside
 
   read : getD p i z ≡ written (getD (tenants n ids p₀) i noTenant)
   read =
@@ -133,7 +134,7 @@ module _ (now : Moment) (ids : List Tunnel) (n : ℕ) (p₀ p : List Vcpu) (i : 
       ∙ ap (λ (q : List Vcpu). set q i (written (returned (now .0) (getD (tenants n ids p₀) i noTenant)))) (sym (s .done))
 
   on : (q : List Vcpu) → q ≡ set p i (written (returned (now .0) (getD (tenants n ids p₀) i noTenant))) → Sweeping now ids n p₀ q (i + 1)
-  on q e = record { filled = s .filled; valid = s .valid; time = s .time; done = e ∙ sym next; most = omega arith; few = s .few }
+  on q e = record { filled = s .filled; fits = s .fits; time = s .time; done = e ∙ sym next; most = omega arith; few = s .few }
 
   pub sweep-due : Sweeping now ids n p₀ (set p i (written (returned (now .0) (bare (getD p i z))))) (i + 1)
   sweep-due =
@@ -154,11 +155,15 @@ ids-kept now zero z vs = refl
 ids-kept now (suc k) z [] = refl
 ids-kept now (suc k) z (v ∷ vs) = ap (λ (r : List Tunnel). tunnelOf v ∷ r) (ids-kept now k z vs)
 
+bring-length : (now : ℕ) (vs : List Tenant) → length (bring now vs) ≡ length vs
+bring-length now [] = refl
+bring-length now (v ∷ vs) = ap suc (bring-length now vs)
+
 -- when it is done
 module _ (now : Moment) (ids : List Tunnel) (n : ℕ) (p₀ p : List Vcpu) (i : ℕ) (s : Sweeping now ids n p₀ p i) (h : n ≤ i) (vs : List Tenant)
-    (f : Filled p₀ ids n vs) (r : ValidTenants (now .0) vs) where
+    (f : Filled p₀ ids n vs) (r : All Fits vs) where
   all : tenants n ids p₀ ≡ vs
-  all = filled-tenants p₀ ids n vs (r .few) (small (now .0) vs r) f
+  all = filled-tenants p₀ ids n vs (omega (arith, f .count, s .few)) (small vs r) f
 
   ended : i ≡ length (tenants n ids p₀)
   ended = omega (arith, s .most, s .filled .count)
@@ -173,6 +178,3 @@ module _ (now : Moment) (ids : List Tunnel) (n : ℕ) (p₀ p : List Vcpu) (i : 
         tunnels = f .tunnels ∙ sym (ids-kept (now .0) 32 (tunnel nobody) vs);
         count = f .count ∙ sym (bring-length (now .0) vs);
       }
-
-  pub sweep-valid : ValidTenants (now .0) (bring (now .0) vs)
-  sweep-valid = bring-valid (now .0) (now .0) vs r

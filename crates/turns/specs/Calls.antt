@@ -2,14 +2,13 @@
 -- Assumes nothing.
 use Prim.Native.Nat.{ℕ}
 use mathlib.Core.Bool.{true, false}
-use mathlib.Core.List.{List, [], _∷_, map}
 use mathlib.Core.Option.{Option, none, some}
 use lib.ListN.{length}
 use Rattle.units.specs.Units.{moment, amount, tunnel}
 use Rattle.units.specs.declared.Moment.{Moment}
 use Rattle.rules.specs.Vcpu.{Description as Terms}
 use Rattle.rules.specs.Vcpu.{Vcpu as Tenant}
-use Rattle.rules.specs.Card.{Card, empty}
+use Rattle.rules.specs.Card.{Card}
 use Rattle.rules.specs.Change.{admit, wake, block, remove, tick}
 use Rattle.rules.specs.Change.{Change as Asked}
 use Rattle.rules.specs.Turn.{Call, ok, refused, turn}
@@ -31,7 +30,7 @@ use Rattle.turns.specs.declared.Answer.{Answer}
 use Rattle.turns.specs.declared.Core.{Core}
 use Rattle.turns.specs.declared.Look.{Look}
 use Rattle.turns.specs.declared.Status.{Status}
-use Rattle.turns.specs.State.{written, noTenant, card, coreOf}
+use Rattle.turns.specs.Written.{written, noTenant, card, coreOf}
 
 abbrev pub described : Description → Terms
 described d = record { tunnel = d .tunnel .0; period = d .period .0; capacity = d .capacity .0; priority = d .priority }
@@ -93,16 +92,3 @@ looked (some v) = record { there = true; vcpu = written v }
 abbrev pub statusOf : Card → Status
 statusOf k =
     record { time = moment (k .last); run = holderSaid (k .running); timer = timerSaid (k .timer); vcpus = length (k .vcpus) }
-
--- a call as a host makes it
-pub record Asking : Type 0 where
-  pub now : Moment
-  pub change : Change
-
--- the core after any calls, refused ones among them, from the empty one; the newest call first
-abbrev pub made : List Asking → Core
-made [] = coreOf empty
-made (a ∷ calls) = (turned (made calls) (a .now) (a .change)) .core
-
-abbrev pub calls : List Asking → List Call
-calls l = map (λ a. callOf (a .now) (a .change)) l

@@ -12,7 +12,7 @@ use Rattle.turns.specs.declared.Verdict.the-variants.{Go, Refuse}
 use Rattle.turns.specs.declared.Description.{Description}
 use Rattle.turns.specs.declared.Change.{Change}
 use Rattle.turns.specs.declared.Change.the-variants.{Admit, Wake, Block, Remove, Tick}
-use Rattle.turns.specs.State.{idle}
+use Rattle.turns.specs.Written.{idle}
 use Rattle.turns.specs.Table.{seek}
 
 abbrev pub refuse : ℕ → ℕ → Verdict

@@ -1,8 +1,10 @@
--- What the contracts of `turns` cite: how a core shows a card and a card is written as a core (State), what the parts of a
--- call do to the written form (Steps), and what the public calls promise (Calls). Assumes nothing.
+-- The promises of the public calls need Laid, Written (how a core shows a card and a card is written as a core), Calls (the rules'
+-- call that a call is, the rules' answer as the answer) and State (the cores that calls make). Steps, Table and Judge are cited by
+-- private functions alone. Assumes nothing.
 pub mod Laid
+pub mod Written
+pub mod Calls
 pub mod State
 pub mod Steps
 pub mod Table
 pub mod Judge
-pub mod Calls

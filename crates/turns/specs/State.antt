@@ -1,187 +1,29 @@
--- The state of the core read as the rules' card, and the card written as the core's state.
+-- The states of the core: "Only the empty card and the calls make a state, and the promises speak of such states."
 -- Assumes nothing.
-use Prim.Native.Nat.{ℕ, zero, suc, _+_, _≤_}
 use mathlib.Core.Path.{_≡_}
-use mathlib.Core.Bool.{true, false, cond}
 use mathlib.Core.List.{List, [], _∷_, map}
-use mathlib.Core.Option.{Option, none, some}
-use lib.Dec.{ltb, eqb}
-use lib.ListN.{length, getD}
-use Rattle.units.specs.Units.{moment, amount, tunnel}
 use Rattle.units.specs.declared.Moment.{Moment}
-use Rattle.units.specs.declared.Amount.{Amount}
-use Rattle.units.specs.declared.Tunnel.{Tunnel}
-use Rattle.rules.specs.Lists.{sum, All}
-use Rattle.rules.specs.Limits.{largestTime, largestTunnel, largestPeriod, mostVcpus, mostPending}
-use Rattle.rules.specs.Vcpu.{Description, Entry, moreUrgent, named}
-use Rattle.rules.specs.Vcpu.{Vcpu as Tenant}
-use Rattle.rules.specs.Card.{Card}
-use Rattle.rules.specs.Turn.{settled}
-use Rattle.turns.specs.declared.Vcpu.{Vcpu}
+use Rattle.rules.specs.Card.{empty}
+use Rattle.rules.specs.Turn.{Call}
+use Rattle.turns.specs.declared.Change.{Change}
 use Rattle.turns.specs.declared.Core.{Core}
-use Rattle.turns.specs.Laid.{laid}
+use Rattle.turns.specs.Written.{coreOf}
+use Rattle.turns.specs.Calls.{callOf, turned}
 
--- a time above all, for an unused slot and for no timer
-abbrev pub never : ℕ
-never = 18446744073709551615
+-- a call as a host makes it
+pub record Asking : Type 0 where
+  pub now : Moment
+  pub change : Change
 
--- the identifier of a vacant place, above 24 bits
-abbrev pub nobody : ℕ
-nobody = 4294967295
+-- the core after any calls, refused ones among them, from the empty one; the newest call first
+abbrev pub made : List Asking → Core
+made [] = coreOf empty
+made (a ∷ calls) = (turned (made calls) (a .now) (a .change)) .core
 
--- the place of nobody: idle
-abbrev pub idle : ℕ
-idle = 32
-
-abbrev pub dueOf : Entry → Moment
-dueOf e = moment (e .due)
-
-abbrev pub amountOf : Entry → Amount
-amountOf e = amount (e .amount)
-
-abbrev pub tunnelOf : Tenant → Tunnel
-tunnelOf v = tunnel (v .terms .tunnel)
-
--- a tenant's record; its identifier stands beside it
-unfoldable pub written : Tenant → Vcpu
-written v =
-    record {
-      due = laid 8 dueOf (moment never) (v .pending);
-      ended = moment (v .ended);
-      amount = laid 8 amountOf (amount 0) (v .pending);
-      period = amount (v .terms .period);
-      capacity = amount (v .terms .capacity);
-      usable = amount (v .usable);
-      priority = v .terms .priority;
-      runnable = v .runnable;
-      count = length (v .pending);
-    }
-
--- the record of a vacant place
-abbrev pub noTenant : Tenant
-noTenant =
-    record {
-      terms = record { tunnel = nobody; period = 0; capacity = 0; priority = 0 };
-      runnable = false;
-      usable = 0;
-      ended = 0;
-      pending = [];
-    }
-
--- the first `n` slots, in order
-abbrev pub entries : ℕ → List Moment → List Amount → List Entry
-entries zero ds as′ = []
-entries (suc n) [] as′ = []
-entries (suc n) (d ∷ ds) [] = []
-entries (suc n) (d ∷ ds) (a ∷ as′) = record { due = d .0; amount = a .0 } ∷ entries n ds as′
-
--- what a record and its identifier show
-unfoldable pub shown : Tunnel → Vcpu → Tenant
-shown t v =
-    record {
-      terms = record { tunnel = t .0; period = v .period .0; capacity = v .capacity .0; priority = v .priority };
-      runnable = v .runnable;
-      usable = v .usable .0;
-      ended = v .ended .0;
-      pending = entries (v .count) (v .due) (v .amount);
-    }
-
--- the first `n` places, in order
-abbrev pub tenants : ℕ → List Tunnel → List Vcpu → List Tenant
-tenants zero ts vs = []
-tenants (suc n) [] vs = []
-tenants (suc n) (t ∷ ts) [] = []
-tenants (suc n) (t ∷ ts) (v ∷ vs) = shown t v ∷ tenants n ts vs
-
-abbrev pub runningAt : ℕ → List Tunnel → Option ℕ
-runningAt at ids = cond (ltb at idle) (some ((getD ids at (tunnel nobody)) .0)) none
-
-abbrev pub timerAt : ℕ → Option ℕ
-timerAt t = cond (eqb t never) none (some t)
-
--- the card that a core shows
-unfoldable pub card : Core → Card
-card c =
-    record {
-      last = c .last .0;
-      running = runningAt (c .running) (c .ids);
-      timer = timerAt (c .timer .0);
-      vcpus = tenants (c .n) (c .ids) (c .places);
-    }
-
--- the place of the one so named, or behind all where there is none
-abbrev pub place : ℕ → List Tenant → ℕ
-place t [] = 0
-place t (v ∷ vs) = cond (named t v) 0 (suc (place t vs))
-
-abbrev pub placeOf : Option ℕ → List Tenant → ℕ
-placeOf none vs = idle
-placeOf (some t) vs = place t vs
-
-abbrev pub timerOf : Option ℕ → ℕ
-timerOf none = never
-timerOf (some t) = t
-
--- the core that a card is written as
-unfoldable pub coreOf : Card → Core
-coreOf k =
-    record {
-      places = laid 32 written (written noTenant) (k .vcpus);
-      last = moment (k .last);
-      ids = laid 32 tunnelOf (tunnel nobody) (k .vcpus);
-      timer = moment (timerOf (k .timer));
-      running = placeOf (k .running) (k .vcpus);
-      n = length (k .vcpus);
-    }
-
--- the due times rise
-abbrev pub Rising : List Entry → Type 0
-Rising [] = Unit {0}
-Rising (e ∷ q) = All (λ f. e .due ≤ f .due) q × Rising q
-
--- each is more urgent than all behind it
-abbrev pub Ranked : List Description → Type 0
-Ranked [] = Unit {0}
-Ranked (d ∷ l) = All (λ e. moreUrgent d e ≡ true) l × Ranked l
-
--- no identifier stands twice
-abbrev pub Distinct : List Description → Type 0
-Distinct [] = Unit {0}
-Distinct (d ∷ l) = All (λ e. e .tunnel ≡ d .tunnel → ⊥) l × Distinct l
-
-abbrev pub termsOf : List Tenant → List Description
-termsOf vs = map (λ v. v .terms) vs
-
--- what holds of terms that were admitted
-pub record ValidTerms (d : Description) : Type 0 where
-  pub tunnel : d .tunnel ≤ largestTunnel
-  pub least : 1 ≤ d .capacity
-  pub capacity : d .capacity ≤ d .period
-  pub period : d .period ≤ largestPeriod
-
--- what holds of a tenant after a call at `last`
-pub record ValidTenant (last : ℕ) (v : Tenant) : Type 0 where
-  pub terms : ValidTerms (v .terms)
-  pub few : length (v .pending) ≤ mostPending
-  pub whole : v .usable + sum (λ e. e .amount) (v .pending) ≡ v .terms .capacity
-  pub rising : Rising (v .pending)
-  pub near : All (λ e. e .due ≤ last + v .terms .period) (v .pending)
-  pub used : v .ended ≤ last
-
--- what holds of the tenants after a call at `last`
-pub record ValidTenants (last : ℕ) (vs : List Tenant) : Type 0 where
-  pub few : length vs ≤ mostVcpus
-  pub each : All (ValidTenant last) vs
-  pub ranked : Ranked (termsOf vs)
-  pub distinct : Distinct (termsOf vs)
-
--- what holds of the card between calls
-pub record ValidCard (k : Card) : Type 0 where
-  pub time : k .last ≤ largestTime
-  pub tenants : ValidTenants (k .last) (k .vcpus)
-  pub settled : k ≡ settled (k .last) (k .vcpus)
-
--- the states that the empty card and the calls make
 pub record ValidCore (c : Core) : Type 0 where
-  pub written : c ≡ coreOf (card c)
-  pub card : ValidCard (card c)
+  pub calls : List Asking
+  pub made-by : c ≡ made calls
+
+-- the same calls as the rules have them
+abbrev pub callsOf : List Asking → List Call
+callsOf l = map (λ a. callOf (a .now) (a .change)) l

@@ -2,7 +2,7 @@
 -- rules' steps on what the form shows is proved in proofs/. Assumes nothing.
 use Prim.Native.Nat.{ℕ, suc, _+_, _-_, _≤_, _<_, min}
 use mathlib.Core.Path.{_≡_}
-use mathlib.Core.Bool.{Bool, true, false, cond, not, _&&_}
+use mathlib.Core.Bool.{Bool, true, false, cond, _&&_}
 use mathlib.Core.List.{List, [], _∷_}
 use lib.Dec.{ltb, eqb}
 use lib.ListN.{length, getD, set}
@@ -13,9 +13,10 @@ use Rattle.turns.specs.declared.Vcpu.{Vcpu}
 use Rattle.turns.specs.declared.Pick.{Pick}
 use Rattle.turns.specs.declared.Change.{Change}
 use Rattle.turns.specs.declared.Change.the-variants.{Admit, Wake, Block, Remove, Tick}
+use Rattle.rules.specs.Limits.{mostPending}
 use Rattle.rules.specs.Lists.{sum}
 use Rattle.rules.specs.Vcpu.{Vcpu as Tenant}
-use Rattle.turns.specs.State.{never, idle, written, shown}
+use Rattle.turns.specs.Written.{never, idle, written, shown}
 
 -- the queue's arrays, the count, the usable ticks, the end of use, or the mark, anew
 abbrev pub queueAs : Vcpu → List Moment → List Amount → ℕ → Vcpu
@@ -81,7 +82,7 @@ joinsOf v last = ltb 0 (v .count) && eqb (v .ended .0) (last .0)
 unfoldable pub postedOf : Vcpu → Amount → Moment → Vcpu
 postedOf v used last =
     cond (joinsOf v last) (joinedOf v used)
-    (cond (eqb (v .count) 8) (foldedOf v used (later last (v .period))) (appendedOf v used (later last (v .period))))
+    (cond (eqb (v .count) mostPending) (foldedOf v used (later last (v .period))) (appendedOf v used (later last (v .period))))
 
 abbrev pub elapsedOf : Moment → Moment → Amount
 elapsedOf last now = amount (now .0 - last .0)
@@ -93,7 +94,7 @@ chargedOf v last now =
 
 -- what a charge asks: the slots in use fit, and the ticks held are usable ones
 pub record Chargeable (v : Vcpu) (last now : Moment) : Type 0 where
-  pub few : v .count ≤ 8
+  pub few : v .count ≤ mostPending
   pub onward : last .0 ≤ now .0
   pub enough : now .0 - last .0 ≤ v .usable .0
   pub fits : (k : ℕ) → ticksAt v k + v .usable .0 < 4294967296
@@ -155,6 +156,6 @@ bare v = shown (tunnel 0) v
 -- what the return step asks: a written record whose ticks fit, and a moment below the one above all
 pub record Returnable (v : Vcpu) (now : Moment) : Type 0 where
   pub written : v ≡ written (bare v)
-  pub few : length (bare v .pending) ≤ 8
+  pub few : length (bare v .pending) ≤ mostPending
   pub fits : bare v .usable + sum (λ e. e .amount) (bare v .pending) < 4294967296
   pub time : now .0 < never

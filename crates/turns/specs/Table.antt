@@ -1,16 +1,18 @@
 -- What the parts of a call that look at the table, or shift it, answer. Assumes nothing.
-use Prim.Native.Nat.{ℕ, zero, suc, _+_, _*_}
+use Prim.Native.Nat.{ℕ, zero, suc}
 use mathlib.Core.Bool.{cond}
 use mathlib.Core.List.{List, [], _∷_, _++_}
 use lib.Dec.{ltb, eqb}
 use lib.ListN.{getD}
 use Rattle.units.specs.Units.{tunnel}
 use Rattle.units.specs.declared.Tunnel.{Tunnel}
+use Rattle.rules.specs.Vcpu.{moreUrgent}
+use Rattle.rules.specs.Vcpu.{Description as Terms}
 use Rattle.turns.specs.declared.Vcpu.{Vcpu}
 use Rattle.turns.specs.declared.Holder.{Holder}
 use Rattle.turns.specs.declared.Holder.the-variants.{Idle}
 use Rattle.turns.specs.declared.Holder.the-variants.{Vcpu as Held}
-use Rattle.turns.specs.State.{idle}
+use Rattle.turns.specs.Written.{idle}
 
 -- the first place of an identifier, or behind all
 abbrev pub seek : ℕ → List Tunnel → ℕ
@@ -20,16 +22,16 @@ seek t (x ∷ xs) = cond (eqb (x .0) t) 0 (suc (seek t xs))
 abbrev pub holderOf : List Tunnel → ℕ → Holder
 holderOf ids at = cond (ltb at idle) (Held (getD ids at (tunnel 0))) Idle
 
--- priority, then identifier, as one number
-abbrev pub rankOf : ℕ → ℕ → ℕ
-rankOf priority t = priority * 16777216 + t
+-- what urgency looks at; the other terms do not matter
+abbrev pub urgency : ℕ → ℕ → Terms
+urgency priority t = record { tunnel = t; period = 0; capacity = 0; priority = priority }
 
--- the first of the first `n` places whose rank is above `mine`, or `n`
-abbrev pub spotIn : ℕ → ℕ → List Vcpu → List Tunnel → ℕ
-spotIn mine zero vs ts = 0
-spotIn mine (suc n) [] ts = 0
-spotIn mine (suc n) (v ∷ vs) [] = 0
-spotIn mine (suc n) (v ∷ vs) (t ∷ ts) = cond (ltb mine (rankOf (v .priority) (t .0))) 0 (suc (spotIn mine n vs ts))
+-- the first of the first `n` places that the newcomer is more urgent than, or `n`
+abbrev pub spotIn : Terms → ℕ → List Vcpu → List Tunnel → ℕ
+spotIn d zero vs ts = 0
+spotIn d (suc n) [] ts = 0
+spotIn d (suc n) (v ∷ vs) [] = 0
+spotIn d (suc n) (v ∷ vs) (t ∷ ts) = cond (moreUrgent d (urgency (v .priority) (t .0))) 0 (suc (spotIn d n vs ts))
 
 module _ {A : Type 0} where
   -- `y` at a place, what stood there and behind it one place on, and the last one gone

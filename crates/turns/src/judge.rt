@@ -37,7 +37,7 @@ fn in_range(period: u32, capacity: u32) -> bool
     capacity <= period
 }
 
-fn judged_admit(ids: [Tunnel; 32], n: usize, d: Description) -> Verdict
+fn judged_admit(ids: [Tunnel; MOST_VCPUS], n: usize, d: Description) -> Verdict
     ensures { λ r. ⌜ r ≡ judgeAdmit ids n d ⌝ }
 {
     let id = d.tunnel;
@@ -62,7 +62,7 @@ fn judged_admit(ids: [Tunnel; 32], n: usize, d: Description) -> Verdict
     Verdict::Go(0)
 }
 
-fn judged_naming(ids: [Tunnel; 32], id: Tunnel) -> Verdict
+fn judged_naming(ids: [Tunnel; MOST_VCPUS], id: Tunnel) -> Verdict
     ensures { λ r. ⌜ r ≡ judgeNaming ids (id .0) ⌝ }
 {
     let wide = LARGEST_TUNNEL < id.number();
@@ -77,7 +77,7 @@ fn judged_naming(ids: [Tunnel; 32], id: Tunnel) -> Verdict
     Verdict::Go(at)
 }
 
-fn judged_call(ids: [Tunnel; 32], n: usize, change: Change) -> Verdict
+fn judged_call(ids: [Tunnel; MOST_VCPUS], n: usize, change: Change) -> Verdict
     ensures { λ r. ⌜ r ≡ judgeCall ids n change ⌝ }
 {
     match change {
@@ -92,7 +92,7 @@ fn judged_call(ids: [Tunnel; 32], n: usize, change: Change) -> Verdict
 pub(crate) fn judged(
     last: Moment,
     timer: Moment,
-    ids: [Tunnel; 32],
+    ids: [Tunnel; MOST_VCPUS],
     n: usize,
     now: Moment,
     change: Change,

@@ -1,15 +1,17 @@
 // The scheduler of one core: timed calls go in, the VCPU to run, its usable ticks and the timer come out.
 mod judge;
-mod server;
+mod steps;
 mod table;
 
 use units::Amount;
+use units::LAST_MOMENT;
 use units::Moment;
 use units::Tunnel;
 ghost use mathlib.Core.Path.{_≡_};
 ghost use Rattle.rules.specs.Card.{empty as emptyCard};
 ghost use Rattle.rules.specs.Card.{find as findRule};
-ghost use Rattle.turns.specs.State.{card, coreOf, ValidCore};
+ghost use Rattle.turns.specs.Written.{card, coreOf};
+ghost use Rattle.turns.specs.State.{ValidCore};
 ghost use Rattle.turns.specs.Calls.{turned, looked, statusOf};
 
 // The limits of the card.
@@ -24,11 +26,13 @@ pub const MOST_VCPUS: usize = 32;
 pub const MOST_PENDING: u8 = 8;
 
 // A time above all: the due time of an unused slot, and the timer where there is none.
-const NEVER: u64 = 18446744073709551615;
+const NEVER: u64 = LAST_MOMENT;
 // The identifier of a vacant place, above 24 bits.
 const NOBODY: u32 = 4294967295;
 // The place of nobody.
 const IDLE: usize = 32;
+
+const LAST_PLACE: usize = 31;
 
 // The whole VCPU description that an admit carries.
 pub struct Description {
@@ -111,9 +115,9 @@ pub struct Status {
 
 // The first `n` places are in use, the most urgent first. The order of the fields keeps a copy of the table away.
 pub struct Core {
-    places: [Vcpu; 32],
+    places: [Vcpu; MOST_VCPUS],
     last: Moment,
-    ids: [Tunnel; 32],
+    ids: [Tunnel; MOST_VCPUS],
     timer: Moment,
     running: usize,
     n: usize,
@@ -135,12 +139,12 @@ impl Core {
     pub fn empty() -> Self
         ensures { λ r. ⌜ (r ≡ coreOf emptyCard) × ValidCore r ⌝ }
     {
-        let v = server::vacant();
+        let v = steps::vacant();
         let id = Tunnel::new(NOBODY);
         Core {
-            places: [v; 32],
+            places: [v; MOST_VCPUS],
             last: Moment::new(0),
-            ids: [id; 32],
+            ids: [id; MOST_VCPUS],
             timer: Moment::new(NEVER),
             running: IDLE,
             n: 0,
@@ -170,14 +174,14 @@ impl Core {
         // 1. Charge; in idle nobody is charged.
         if running < n {
             let v = p[running];
-            p[running] = server::charged(v, last, now);
+            p[running] = steps::charged(v, last, now);
         }
         // 2. Return, for every VCPU, runnable or not.
         let mut i = 0;
         while i < n {
             let v = p[i];
-            if server::due_by(v, now) {
-                p[i] = server::returned(v, now);
+            if steps::due_by(v, now) {
+                p[i] = steps::returned(v, now);
             }
             i += 1;
         }
@@ -185,7 +189,7 @@ impl Core {
         match change {
             Change::Admit(d) => {
                 let k = table::spot(p, ids, n, d);
-                let v = server::admitted(d);
+                let v = steps::admitted(d);
                 let id = d.tunnel;
                 let wider = table::with_vcpu(p, k, v);
                 let longer = table::with_id(ids, k, id);
@@ -194,7 +198,7 @@ impl Core {
                 n += 1;
             }
             Change::Remove(_) => {
-                let closed = table::without_vcpu(p, at, server::vacant());
+                let closed = table::without_vcpu(p, at, steps::vacant());
                 let shorter = table::without_id(ids, at, Tunnel::new(NOBODY));
                 p = closed;
                 ids = shorter;
@@ -202,7 +206,7 @@ impl Core {
             }
             _ => {
                 let v = p[at];
-                p[at] = server::changed(v, change);
+                p[at] = steps::changed(v, change);
             }
         }
         // 4. Choose: the table is in the order of urgency, and every place in use is looked at.
@@ -214,18 +218,20 @@ impl Core {
         let mut j = 0;
         while j < n {
             let v = p[j];
-            pick = server::picked(pick, j, v);
+            pick = steps::picked(pick, j, v);
             j += 1;
         }
         // 5. Timer.
-        let timer = server::timer_at(now, pick);
+        let timer = steps::timer_for(now, pick);
         let chosen = pick.at;
         let usable = pick.usable;
+        let run = table::holder(ids, chosen);
+        let said = steps::timer_said(timer);
         let report = Report {
             time: now,
-            run: table::holder(ids, chosen),
+            run,
             usable,
-            timer: server::timer_of(timer),
+            timer: said,
         };
         Answer {
             core: Core {
@@ -282,7 +288,7 @@ impl Core {
     {
         let wide = LARGEST_TUNNEL < id.number();
         if wide {
-            let vcpu = server::vacant();
+            let vcpu = steps::vacant();
             return Look { there: false, vcpu };
         }
         let ids = self.ids;
@@ -292,7 +298,7 @@ impl Core {
             let vcpu = p[at];
             return Look { there: true, vcpu };
         }
-        let vcpu = server::vacant();
+        let vcpu = steps::vacant();
         Look { there: false, vcpu }
     }
 
@@ -304,7 +310,7 @@ impl Core {
         let time = self.last;
         let timer = self.timer;
         let run = table::holder(ids, self.running);
-        let said = server::timer_of(timer);
+        let said = steps::timer_said(timer);
         Status {
             time,
             run,

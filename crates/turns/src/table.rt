@@ -2,18 +2,23 @@
 use crate::Description;
 use crate::Holder;
 use crate::IDLE;
+use crate::LAST_PLACE;
+use crate::MOST_VCPUS;
 use crate::Vcpu;
 use units::Tunnel;
 ghost use mathlib.Core.Path.{_≡_};
 ghost use Prim.Native.Nat.{_≤_, _<_};
-ghost use Rattle.turns.specs.Table.{seek, holderOf, rankOf, spotIn, inserted, removed};
+ghost use Rattle.rules.specs.Limits.{mostVcpus};
+ghost use Rattle.rules.specs.Vcpu.{moreUrgent};
+ghost use Rattle.turns.specs.Calls.{described};
+ghost use Rattle.turns.specs.Table.{seek, holderOf, urgency, spotIn, inserted, removed};
 
-// The place of an identifier, 32 where it is not there.
-pub(crate) fn find(ids: [Tunnel; 32], id: Tunnel) -> usize
+// The place of an identifier, nobody's where it is not there.
+pub(crate) fn find(ids: [Tunnel; MOST_VCPUS], id: Tunnel) -> usize
     ensures { λ r. ⌜ r ≡ seek (id .0) ids ⌝ }
 {
     let mut k = 0;
-    while k < 32 {
+    while k < MOST_VCPUS {
         let x = ids[k];
         let found = x.same(id);
         if found {
@@ -21,10 +26,10 @@ pub(crate) fn find(ids: [Tunnel; 32], id: Tunnel) -> usize
         }
         k += 1;
     }
-    32
+    IDLE
 }
 
-pub(crate) fn holder(ids: [Tunnel; 32], at: usize) -> Holder
+pub(crate) fn holder(ids: [Tunnel; MOST_VCPUS], at: usize) -> Holder
     ensures { λ r. ⌜ r ≡ holderOf ids at ⌝ }
 {
     if at < IDLE {
@@ -33,25 +38,32 @@ pub(crate) fn holder(ids: [Tunnel; 32], at: usize) -> Holder
     Holder::Idle
 }
 
-// Priority, then identifier, as one number.
-fn rank(priority: u8, id: Tunnel) -> u64
-    ensures { λ r. ⌜ r ≡ rankOf priority (id .0) ⌝ }
+// The newcomer is more urgent than a VCPU of that priority and identifier.
+fn more_urgent(d: Description, priority: u8, id: Tunnel) -> bool
+    ensures { λ r. ⌜ r ≡ moreUrgent (described d) (urgency priority (id .0)) ⌝ }
 {
-    (priority as u64) * 16777216 + (id.number() as u64)
+    let mine = d.tunnel;
+    let level = d.priority == priority;
+    if level {
+        return mine.below(id);
+    }
+    d.priority < priority
 }
 
 // The first place of the first `n` whose VCPU is less urgent than the newcomer, or `n`.
-pub(crate) fn spot(p: [Vcpu; 32], ids: [Tunnel; 32], n: usize, d: Description) -> usize
-    requires { ⌜ n ≤ 32 ⌝ }
-    ensures { λ r. ⌜ r ≡ spotIn (rankOf (d .priority) (d .tunnel .0)) n p ids ⌝ }
+pub(crate) fn spot(
+    p: [Vcpu; MOST_VCPUS],
+    ids: [Tunnel; MOST_VCPUS],
+    n: usize,
+    d: Description,
+) -> usize
+    requires { ⌜ n ≤ mostVcpus ⌝ }
+    ensures { λ r. ⌜ r ≡ spotIn (described d) n p ids ⌝ }
 {
-    let id = d.tunnel;
-    let mine = rank(d.priority, id);
     let mut k = 0;
     while k < n {
         let v = p[k];
-        let its = rank(v.priority, ids[k]);
-        let before = mine < its;
+        let before = more_urgent(d, v.priority, ids[k]);
         if before {
             return k;
         }
@@ -61,14 +73,14 @@ pub(crate) fn spot(p: [Vcpu; 32], ids: [Tunnel; 32], n: usize, d: Description) -
 }
 
 // `v` at the place `at`, and what stood there and behind it one place on. The last one, a vacant place, is dropped.
-pub(crate) fn with_vcpu(p: [Vcpu; 32], at: usize, v: Vcpu) -> [Vcpu; 32]
-    requires { ⌜ at ≤ 32 ⌝ }
+pub(crate) fn with_vcpu(p: [Vcpu; MOST_VCPUS], at: usize, v: Vcpu) -> [Vcpu; MOST_VCPUS]
+    requires { ⌜ at ≤ mostVcpus ⌝ }
     ensures { λ r. ⌜ r ≡ inserted at v p ⌝ }
 {
     let mut q = p;
     let mut carried = v;
     let mut k = at;
-    while k < 32 {
+    while k < MOST_VCPUS {
         let x = q[k];
         q[k] = carried;
         carried = x;
@@ -77,14 +89,14 @@ pub(crate) fn with_vcpu(p: [Vcpu; 32], at: usize, v: Vcpu) -> [Vcpu; 32]
     q
 }
 
-pub(crate) fn with_id(p: [Tunnel; 32], at: usize, v: Tunnel) -> [Tunnel; 32]
-    requires { ⌜ at ≤ 32 ⌝ }
+pub(crate) fn with_id(p: [Tunnel; MOST_VCPUS], at: usize, v: Tunnel) -> [Tunnel; MOST_VCPUS]
+    requires { ⌜ at ≤ mostVcpus ⌝ }
     ensures { λ r. ⌜ r ≡ inserted at v p ⌝ }
 {
     let mut q = p;
     let mut carried = v;
     let mut k = at;
-    while k < 32 {
+    while k < MOST_VCPUS {
         let x = q[k];
         q[k] = carried;
         carried = x;
@@ -94,32 +106,32 @@ pub(crate) fn with_id(p: [Tunnel; 32], at: usize, v: Tunnel) -> [Tunnel; 32]
 }
 
 // What stood behind the place `at` one place forward, and `v` at the last place.
-pub(crate) fn without_vcpu(p: [Vcpu; 32], at: usize, v: Vcpu) -> [Vcpu; 32]
-    requires { ⌜ at < 32 ⌝ }
+pub(crate) fn without_vcpu(p: [Vcpu; MOST_VCPUS], at: usize, v: Vcpu) -> [Vcpu; MOST_VCPUS]
+    requires { ⌜ at < mostVcpus ⌝ }
     ensures { λ r. ⌜ r ≡ removed at v p ⌝ }
 {
     let mut q = p;
     let mut k = at;
-    while k < 31 {
+    while k < LAST_PLACE {
         let x = q[k + 1];
         q[k] = x;
         k += 1;
     }
-    q[31] = v;
+    q[LAST_PLACE] = v;
     q
 }
 
-pub(crate) fn without_id(p: [Tunnel; 32], at: usize, v: Tunnel) -> [Tunnel; 32]
-    requires { ⌜ at < 32 ⌝ }
+pub(crate) fn without_id(p: [Tunnel; MOST_VCPUS], at: usize, v: Tunnel) -> [Tunnel; MOST_VCPUS]
+    requires { ⌜ at < mostVcpus ⌝ }
     ensures { λ r. ⌜ r ≡ removed at v p ⌝ }
 {
     let mut q = p;
     let mut k = at;
-    while k < 31 {
+    while k < LAST_PLACE {
         let x = q[k + 1];
         q[k] = x;
         k += 1;
     }
-    q[31] = v;
+    q[LAST_PLACE] = v;
     q
 }

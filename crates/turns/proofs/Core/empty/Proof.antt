@@ -1,8 +1,8 @@
--- `turns::Core::empty` meets its contract: the empty card written, and valid.
+-- `turns::Core::empty` meets its contract: the empty card written, which no call has made yet.
 -- Assumes nothing.
-use Rattle.turns.proofs.Settle.{with-valid}
+use Rattle.turns.proofs.Made.{first}
 use Rattle.turns.specs.Laid.{laid}
-use Rattle.turns.specs.State.{coreOf}
+use Rattle.turns.specs.Written.{coreOf}
 use borrow.Author.Needs.{needs}
 use Rattle.turns.proofs.Core.empty.Statement.{statement}
 use Rattle.turns.proofs.Core.empty.Tie as tie
@@ -21,7 +21,7 @@ new-requires-3 c κs = search needs
 
 returns : tie.Need-returns
 unfolding coreOf laid
-returns c = with-valid _ (rw (c .new3 .ensures, c .before .new2 .ensures, c .before .before .new .ensures, c .before .before .before .vacant .ensures))
+returns c = first _ (rw (c .new3 .ensures, c .before .new2 .ensures, c .before .before .new .ensures, c .before .before .before .vacant .ensures))
 
 pub empty-spec : {M : Type 1} → statement M
 empty-spec =

@@ -12,19 +12,24 @@ use Rattle.rules.specs.Turn.{afterCharge, afterReturn, ok, report, settled}
 use Rattle.turns.specs.declared.Vcpu.{Vcpu}
 use Rattle.turns.specs.declared.Core.{Core}
 use Rattle.turns.specs.declared.Change.{Change}
-use Rattle.turns.specs.State.{card, ValidCore, ValidTenants, written, noTenant, nobody, place, never}
+use Rattle.turns.specs.Written.{card, written, noTenant, nobody, place, never}
+use Rattle.turns.proofs.Invariant.{SoundCore, Between, Listed, Fits, between}
 use Rattle.turns.specs.Steps.{Chargeable, picks, chargedOf}
-use Rattle.turns.specs.Calls.{asked, described, answerOf}
-use Rattle.turns.proofs.Rows.{placeNamed, Met, met, Fresh}
-use Rattle.turns.proofs.Stage.{Filled, n-is, Holds, held, idles, holds, held-chargeable, charge-filled, charge-valid, idle-filled, idle-valid, accepted-call, refused-call}
+use Rattle.turns.specs.Calls.{asked, described, answerOf, turned}
+use Rattle.turns.specs.State.{ValidCore}
+use Rattle.rules.specs.Limits.{largestTime}
+use Rattle.rules.specs.Lists.{All}
+use Rattle.rules.proofs.Accepted.{Passed, passed, Admits}
+use Rattle.turns.proofs.Rows.{placeNamed}
+use Rattle.turns.proofs.Stage.{Filled, n-is, Holds, held, idles, holds, held-chargeable, charge-filled, charge-fits, idle-filled, idle-fits, accepted-call, refused-call}
 use Rattle.units.specs.Units.{amount, tunnel}
 use Rattle.rules.specs.Card.{Card}
 use Rattle.rules.specs.Change.{change as changeRule}
 use Rattle.turns.specs.declared.Description.{Description}
 use Rattle.turns.specs.declared.Change.the-variants.{Admit, Remove}
-use Rattle.turns.specs.Table.{rankOf, spotIn, inserted, removed}
-use Rattle.turns.proofs.Shape.{return-place, spot-fits, admit-filled, remove-filled, named-place, fresh-after, plain-filled, change-valid, place-small}
-use Rattle.turns.proofs.Settle.{core-valid, pick-found, scan-step, scan-end, turned-accepted, turned-refused, answer-found}
+use Rattle.turns.specs.Table.{spotIn, inserted, removed}
+use Rattle.turns.proofs.Shape.{return-place, return-listed, spot-fits, admit-filled, remove-filled, named-place, admits-after, plain-filled, place-small}
+use Rattle.turns.proofs.Settle.{pick-found, scan-step, scan-end, turned-accepted, turned-refused, answer-found}
 use Rattle.turns.proofs.Laid.{laid-length}
 use Rattle.turns.proofs.Choose.{pickFor}
 use Rattle.rules.specs.Choose.{choose}
@@ -33,8 +38,9 @@ use Rattle.turns.specs.declared.Answer.{Answer}
 use Rattle.turns.specs.declared.Reply.the-variants.{Done}
 use Rattle.units.specs.declared.Amount.{Amount}
 use Rattle.turns.proofs.Questions.{unread}
+use Rattle.turns.proofs.Made.{sound, next-between, one-more}
 use borrow.Author.Needs.{needs}
-use Rattle.turns.proofs.Sweep.{Sweeping, sweep-start, sweep-asks, sweep-due, sweep-rests, sweep-filled, sweep-valid}
+use Rattle.turns.proofs.Sweep.{Sweeping, sweep-start, sweep-asks, sweep-due, sweep-rests, sweep-filled}
 use lib.ListN.{length, getD, set, take, drop}
 use Prim.Native.Nat.{ℕ, _+_, _-_, _≤_, _<_}
 use native.Mathlib.Omega.{arith}
@@ -70,18 +76,18 @@ change-of c = c .before .before .before .before .before .before .before .args .c
 abbrev at-of : P → ℕ
 at-of c = c .before .before .verdict .given .0 .0
 
-valid : (c : P) → ValidCore (core c)
-valid c = c .before .before .before .before .before .before .before .pre
+valid : (c : P) → SoundCore (core c)
+valid c = sound (core c) (c .before .before .before .before .before .before .before .pre)
 
 accept : (c : P) → (refusal (card (core c)) (moment-of c .0) (asked (change-of c)) ≡ none) × (at-of c ≡ placeNamed (change-of c) (card (core c) .vcpus))
 accept c = accepted-call (core c) (moment-of c) (change-of c) (c .before .before .before .before .judged .result) (at-of c) (valid c)
     (c .before .before .before .before .judged .ensures) (c .before .before .verdict .given .1)
 
-meets : (c : P) → Met (card (core c)) (moment-of c .0) (change-of c)
-meets c = met (card (core c)) (moment-of c .0) (change-of c) (accept c .0)
+meets : (c : P) → Passed (card (core c)) (moment-of c .0) (asked (change-of c))
+meets c = passed (card (core c)) (moment-of c .0) (asked (change-of c)) (accept c .0)
 
 few : (c : P) → core c .n ≤ 32
-few c = omega (arith, n-is (core c) (valid c), valid c .card .tenants .few)
+few c = omega (arith, n-is (core c) (valid c), between (core c) (valid c) .few)
 
 chargeable : (c : P) (z : Vcpu) → core c .running < core c .n → Chargeable (getD (core c .places) (core c .running) z) (core c .last) (moment-of c)
 chargeable c z h = go (holds (core c) (valid c))
@@ -93,7 +99,7 @@ chargeable c z h = go (holds (core c) (valid c))
 -- the table after the charge
 record Table (c : P) (p : List Vcpu) (ids : List Tunnel) (n : ℕ) (vs : List Tenant) : Type 0 where
   filled : Filled p ids n vs
-  good : ValidTenants (moment-of c .0) vs
+  fits : All Fits vs
 
 charged-here : (c : P) (z : Vcpu) → core c .running < core c .n
     → Table c (set (core c .places) (core c .running) (chargedOf (getD (core c .places) (core c .running) z) (core c .last) (moment-of c)))
@@ -105,7 +111,7 @@ charged-here c z h = go (holds (core c) (valid c))
     go (held w r) =
         record {
           filled = charge-filled (core c) (valid c) (moment-of c) (change-of c) (meets c) w r z;
-          good = charge-valid (core c) (valid c) (moment-of c) (change-of c) (meets c) w r;
+          fits = charge-fits (core c) (valid c) (moment-of c) (change-of c) (meets c) w r;
         }
     go (idles e i) = absurd (omega (arith, few c))
 
@@ -117,7 +123,7 @@ nobody-charged c h = go (holds (core c) (valid c))
     go (idles e i) =
         record {
           filled = idle-filled (core c) (valid c) (moment-of c) (change-of c) (meets c) e;
-          good = idle-valid (core c) (valid c) (moment-of c) (change-of c) (meets c) e;
+          fits = idle-fits (core c) (valid c) (moment-of c) (change-of c) (meets c) e;
         }
 
 after-charge : (c : tie.Joined1 Inv-loop μ-loop Inv-loop2 μ-loop2) → Table (c .before) (c .if1 .p) (core (c .before) .ids) (core (c .before) .n)
@@ -142,17 +148,17 @@ now-of c = moment-of (c .before .before .before) .0
 abbrev card-of : L → Card
 card-of c = card (core (c .before .before .before))
 
-after-return : (c : L) → Table (c .before .before .before) (c .before .loop .p) (core (c .before .before .before) .ids) (core
-    (c .before .before .before) .n) (afterReturn (card-of c) (now-of c))
-after-return c =
-    record {
-      filled = sweep-filled (moment-of (c .before .before .before)) (core (c .before .before .before) .ids) (core (c .before .before .before) .n)
-          (c .before .before .if1 .p) (c .before .loop .p) (c .before .loop .i) (c .before .loop .inv) (c .loop-test .left) (afterCharge (card-of c)
-          (now-of c)) (after-charge (c .before .before) .filled) (after-charge (c .before .before) .good);
-      good = sweep-valid (moment-of (c .before .before .before)) (core (c .before .before .before) .ids) (core (c .before .before .before) .n)
-          (c .before .before .if1 .p) (c .before .loop .p) (c .before .loop .i) (c .before .loop .inv) (c .loop-test .left) (afterCharge (card-of c)
-          (now-of c)) (after-charge (c .before .before) .filled) (after-charge (c .before .before) .good);
-    }
+returned-there : (c : L) → Filled (c .before .loop .p) (core (c .before .before .before) .ids) (core (c .before .before .before) .n)
+    (afterReturn (card-of c) (now-of c))
+returned-there c =
+    sweep-filled (moment-of (c .before .before .before)) (core (c .before .before .before) .ids) (core (c .before .before .before) .n)
+    (c .before .before .if1 .p) (c .before .loop .p) (c .before .loop .i) (c .before .loop .inv) (c .loop-test .left) (afterCharge (card-of c)
+    (now-of c)) (after-charge (c .before .before) .filled) (after-charge (c .before .before) .fits)
+
+listed-there : (c : L) → Listed (afterReturn (card-of c) (now-of c))
+listed-there c =
+    let b = between (core (c .before .before .before)) (valid (c .before .before .before)) in
+    return-listed (card-of c) (now-of c) (record { few = b .few; distinct = b .distinct })
 
 -- the rules' list after the change
 abbrev changed-of : L → Change → List Tenant
@@ -165,33 +171,33 @@ abbrev n-of : L → ℕ
 n-of c = core (c .before .before .before) .n
 
 rows-of : (c : L) → callRows (card-of c .vcpus) (asked (change-of (c .before .before .before))) ≡ none
-rows-of c = meets (c .before .before .before) .rows
+rows-of c = meets (c .before .before .before) .asked-for
 
-good-after : (c : L) → ValidTenants (now-of c) (changed-of c (change-of (c .before .before .before)))
-good-after c = change-valid (card-of c) (now-of c) (c .before .loop .p) (ids-of c) (n-of c) (after-return c .filled) (after-return c .good)
-    (change-of (c .before .before .before)) (rows-of c)
+good-after : (c : L) → Between (now-of c) (changed-of c (change-of (c .before .before .before)))
+good-after c = next-between (core (c .before .before .before)) (valid (c .before .before .before)) (moment-of (c .before .before .before))
+    (change-of (c .before .before .before)) (accept (c .before .before .before) .0)
 
-is-fresh : (c : L) (d : Description) → change-of (c .before .before .before) ≡ Admit d → Fresh (afterReturn (card-of c) (now-of c)) d
-is-fresh c d e = fresh-after (card-of c) (now-of c) (c .before .loop .p) (ids-of c) (n-of c) (after-return c .filled) (after-return c .good) d
+is-fresh : (c : L) (d : Description) → change-of (c .before .before .before) ≡ Admit d → Admits (afterReturn (card-of c) (now-of c)) (described d)
+is-fresh c d e = admits-after (card-of c) (now-of c) d
     (subst (λ (x : Change). callRows (card-of c .vcpus) (asked x) ≡ none) e (rows-of c))
 
-spot-small : (c : L) (d : Description) → change-of (c .before .before .before) ≡ Admit d → spotIn (rankOf (d .priority) (d .tunnel .0)) (n-of c)
+spot-small : (c : L) (d : Description) → change-of (c .before .before .before) ≡ Admit d → spotIn (described d) (n-of c)
     (c .before .loop .p) (ids-of c) ≤ 32
-spot-small c d e = spot-fits (c .before .loop .p) (ids-of c) (n-of c) (afterReturn (card-of c) (now-of c)) (now-of c) (after-return c .filled)
-    (after-return c .good) d (is-fresh c d e)
+spot-small c d e = spot-fits (c .before .loop .p) (ids-of c) (n-of c) (afterReturn (card-of c) (now-of c)) (returned-there c)
+    (listed-there c) d (is-fresh c d e)
 
 admitted-there : (c : L) (d : Description) → change-of (c .before .before .before) ≡ Admit d
-    → Filled (inserted (spotIn (rankOf (d .priority) (d .tunnel .0)) (n-of c) (c .before .loop .p) (ids-of c)) (written (admitted (described d)))
+    → Filled (inserted (spotIn (described d) (n-of c) (c .before .loop .p) (ids-of c)) (written (admitted (described d)))
     (c .before .loop .p))
-    (inserted (spotIn (rankOf (d .priority) (d .tunnel .0)) (n-of c) (c .before .loop .p) (ids-of c)) (d .tunnel) (ids-of c)) (n-of c + 1)
+    (inserted (spotIn (described d) (n-of c) (c .before .loop .p) (ids-of c)) (d .tunnel) (ids-of c)) (n-of c + 1)
     (changed-of c (change-of (c .before .before .before)))
 admitted-there c d e =
-    subst (λ (x : Change). Filled (inserted (spotIn (rankOf (d .priority) (d .tunnel .0)) (n-of c) (c .before .loop .p) (ids-of c)) (written
+    subst (λ (x : Change). Filled (inserted (spotIn (described d) (n-of c) (c .before .loop .p) (ids-of c)) (written
     (admitted (described d))) (c .before .loop .p))
-    (inserted (spotIn (rankOf (d .priority) (d .tunnel .0)) (n-of c) (c .before .loop .p) (ids-of c)) (d .tunnel) (ids-of c)) (n-of c + 1)
+    (inserted (spotIn (described d) (n-of c) (c .before .loop .p) (ids-of c)) (d .tunnel) (ids-of c)) (n-of c + 1)
     (changed-of c x)) (sym e)
-    (admit-filled (c .before .loop .p) (ids-of c) (n-of c) (afterReturn (card-of c) (now-of c)) (now-of c) (after-return c .filled)
-    (after-return c .good) d (is-fresh c d e))
+    (admit-filled (c .before .loop .p) (ids-of c) (n-of c) (afterReturn (card-of c) (now-of c)) (returned-there c)
+    (listed-there c) d (is-fresh c d e))
 
 -- the place named by a remove
 named-there : (c : L) (t : Tunnel) → change-of (c .before .before .before) ≡ Remove t
@@ -199,7 +205,7 @@ named-there : (c : L) (t : Tunnel) → change-of (c .before .before .before) ≡
     (now-of c)) < length (afterReturn (card-of c) (now-of c)))
 named-there c t e = (
   accept (c .before .before .before) .1 ∙ ap (λ (x : Change). placeNamed x (card-of c .vcpus)) e ∙ sym (return-place (card-of c) (now-of c) (t .0)),
-  named-place (card-of c) (now-of c) (c .before .loop .p) (ids-of c) (n-of c) (after-return c .filled) (after-return c .good) (t .0) (subst (λ
+  named-place (card-of c) (now-of c) (t .0) (subst (λ
       (x : Change). callRows (card-of c .vcpus) (asked x) ≡ none) e (rows-of c)),
 )
 
@@ -209,11 +215,11 @@ removed-there : (c : L) (t : Tunnel) → change-of (c .before .before .before) �
 removed-there c t e =
     subst (λ (x : Change). Filled (removed (at-of (c .before .before .before)) (written noTenant) (c .before .loop .p)) (removed (at-of
     (c .before .before .before)) (tunnel nobody) (ids-of c)) (n-of c - 1) (changed-of c x)) (sym e)
-    (remove-filled (c .before .loop .p) (ids-of c) (n-of c) (afterReturn (card-of c) (now-of c)) (now-of c) (after-return c .filled)
-    (after-return c .good) (t .0) (at-of (c .before .before .before)) (named-there c t e .0) (named-there c t e .1))
+    (remove-filled (c .before .loop .p) (ids-of c) (n-of c) (afterReturn (card-of c) (now-of c)) (returned-there c)
+    (listed-there c) (t .0) (at-of (c .before .before .before)) (named-there c t e .0) (named-there c t e .1))
 
 at-small : (c : P) → at-of c < 32
-at-small c = omega (arith, accept c .1, place-small (card (core c) .vcpus) (change-of c) (valid c .card .tenants .few) (meets c .rows))
+at-small c = omega (arith, accept c .1, place-small (card (core c) .vcpus) (change-of c) (between (core c) (valid c) .few) (meets c .asked-for))
 
 filled-as : (p p′ : List Vcpu) (ids ids′ : List Tunnel) (n n′ : ℕ) (vs : List Tenant) → p ≡ p′ → ids ≡ ids′ → n ≡ n′ → Filled p′ ids′ n′ vs → Filled p ids n vs
 filled-as p p′ ids ids′ n n′ vs u v w f = record { places = u ∙ f .places; tunnels = v ∙ f .tunnels; count = w ∙ f .count }
@@ -237,8 +243,7 @@ after-change c =
     (w .7) (removed-there (c .before) _ (w .1 .given .1)))
     (λ w. filled-as (c .match2 .p) _ (c .match2 .ids) _ (c .match2 .n) _ _
     (w .5 ∙ ap (set (c .before .before .loop .p) (at-of (c .before .before .before .before))) (w .2 .ensures)) (w .3) (w .4)
-    (plain-filled (card-of (c .before)) (now-of (c .before)) (c .before .before .loop .p) (ids-of (c .before)) (n-of (c .before)) (after-return
-    (c .before) .filled) (after-return (c .before) .good)
+    (plain-filled (card-of (c .before)) (now-of (c .before)) (c .before .before .loop .p) (ids-of (c .before)) (n-of (c .before)) (returned-there (c .before)) (listed-there (c .before))
     (change-of (c .before .before .before .before)) (at-of (c .before .before .before .before)) unread (w .0 .keys3) (rows-of (c .before)) (accept
     (c .before .before .before .before) .1))))
     (c .match2 .came)
@@ -246,7 +251,7 @@ after-change c =
 abbrev list-of : M → List Tenant
 list-of c = changed-of (c .before) (change-of (c .before .before .before .before))
 
-good-there : (c : M) → ValidTenants (now-of (c .before)) (list-of c)
+good-there : (c : M) → Between (now-of (c .before)) (list-of c)
 good-there c = good-after (c .before)
 
 table-few : (c : M) → c .match2 .n ≤ 32
@@ -257,14 +262,19 @@ table-long c = ap length (after-change c .places) ∙ laid-length written (writt
 
 -- the end of an accepted call: what was picked, and the answer
 abbrev R : Type 0
-R = tie.After-timer-of Inv-loop μ-loop Inv-loop2 μ-loop2
+R = tie.After-timer-said Inv-loop μ-loop Inv-loop2 μ-loop2
 
 abbrev vs-of : R → List Tenant
 vs-of c = list-of (c .before .before .before .before .before .before .before .before)
 
-time-of : (c : R) → c .before .before .before .before .before .before .before .before .before .before .before .before .before .before .before .before
-    .before .before .before .args .now .0 ≤ 1000000000000
-time-of c = meets (c .before .before .before .before .before .before .before .before .before .before .before .before) .time
+abbrev core-of : R → Core
+core-of c = c .before .before .before .before .before .before .before .before .before .before .before .before .before .before .before .before .before .before .before .args .self
+
+abbrev asked-at : R → Moment
+asked-at c = c .before .before .before .before .before .before .before .before .before .before .before .before .before .before .before .before .before .before .before .args .now
+
+time-of : (c : R) → asked-at c .0 ≤ largestTime
+time-of c = meets (c .before .before .before .before .before .before .before .before .before .before .before .before) .not-above
 
 picked-there : (c : R) → c .before .before .before .before .before .loop2 .pick ≡ pickFor never 0 (vs-of c) (choose (vs-of c))
 picked-there c =
@@ -280,53 +290,48 @@ picked-there c =
     ∙ ap (λ (m : Moment). picks (record { at = 32; usable = amount 0; soon = m }) 0 (take
     (c .before .before .before .before .before .before .before .before .match2 .n)
     (c .before .before .before .before .before .before .before .before .match2 .p))) (c .before .before .before .before .before .before .new3 .ensures)
-    ∙ pick-found (c .before .before .before .before .before .before .before .before .before .before .before .before .before .before .before .before
-    .before .before .before .args .now .0) (vs-of c) (time-of c) (good-there
+    ∙ pick-found (asked-at c .0) (vs-of c) (time-of c) (good-there
     (c .before .before .before .before .before .before .before .before))
     (c .before .before .before .before .before .before .before .before .match2 .p)
     (c .before .before .before .before .before .before .before .before .match2 .ids)
     (c .before .before .before .before .before .before .before .before .match2 .n) (after-change
     (c .before .before .before .before .before .before .before .before))
 
-answered-there : (c : R)
-    → _≡_ {A = Answer}
-    (record {
+abbrev answer-of : R → Answer
+answer-of c =
+    record {
       core = record {
         places = c .before .before .before .before .before .before .before .before .match2 .p;
-        last = c .before .before .before .before
-            .before .before .before .before .before .before .before .before .before .before .before .before .before .before .before .args .now;
-        ids = c
-            .before .before .before .before .before .before .before .before .match2 .ids;
-        timer = c .before .before .before .timer-at .result;
-        running
-            = c .before .before .before .before .before .loop2 .pick .at;
+        last = asked-at c;
+        ids = c .before .before .before .before .before .before .before .before .match2 .ids;
+        timer = c .before .before .before .timer-for .result;
+        running = c .before .before .before .before .before .loop2 .pick .at;
         n = c .before .before .before .before .before .before .before .before .match2 .n;
       };
       reply = Done (record {
-        time = c .before .before .before .before .before .before .before .before .before .before .before .before .before .before
-            .before .before .before .before .before .args .now;
+        time = asked-at c;
         run = c .before .holder .result;
-        usable = c .before .before .before .before .before
-            .loop2 .pick .usable;
-        timer = c .timer-of .result;
+        usable = c .before .before .before .before .before .loop2 .pick .usable;
+        timer = c .timer-said .result;
       });
-    })
-    (answerOf (record {
-      reply = ok (report (settled (c .before .before .before .before .before .before .before .before .before .before .before
-          .before .before .before .before .before .before .before .before .args .now .0) (vs-of c)));
-      card = settled
-          (c .before .before .before .before .before .before .before .before .before .before .before .before .before .before .before .before .before
-          .before .before .args .now .0) (vs-of c);
-    }))
+    }
+
+answered-there : (c : R) → answer-of c ≡ answerOf (record { reply = ok (report (settled (asked-at c .0) (vs-of c))); card = settled (asked-at c .0) (vs-of c) })
 answered-there c =
-    answer-found (c .before .before .before .before .before .before .before .before .before .before .before .before .before .before .before .before
-    .before .before .before .args .now) (vs-of c) (time-of c) (good-there (c .before .before .before .before .before .before .before .before))
+    answer-found (asked-at c) (vs-of c) (time-of c) (good-there (c .before .before .before .before .before .before .before .before))
     (c .before .before .before .before .before .before .before .before .match2 .p)
     (c .before .before .before .before .before .before .before .before .match2 .ids)
     (c .before .before .before .before .before .before .before .before .match2 .n) (after-change
     (c .before .before .before .before .before .before .before .before)) (c .before .before .before .before .before .loop2 .pick) (picked-there c)
-    (c .before .before .before .timer-at .result) (c .before .before .before .timer-at .ensures) (c .before .holder .result)
-    (c .before .holder .ensures) (c .timer-of .result) (c .timer-of .ensures)
+    (c .before .before .before .timer-for .result) (c .before .before .before .timer-for .ensures) (c .before .holder .result)
+    (c .before .holder .ensures) (c .timer-said .result) (c .timer-said .ensures)
+
+turned-there : (c : R) (a : Answer) → a ≡ answer-of c
+    → (a ≡ turned (core-of c) (asked-at c) (c .before .before .before .before .before .before .before .before .before .before .before .before .before .before .before .before .before .before .before .args .change)) × ValidCore (a .core)
+turned-there c a e =
+    one-more (core-of c) (asked-at c) (c .before .before .before .before .before .before .before .before .before .before .before .before .before .before .before .before .before .before .before .args .change) (c .before .before .before .before .before .before .before .before .before .before .before .before .before .before .before .before .before .before .before .pre) a
+    (e ∙ answered-there c ∙ sym (turned-accepted (core-of c) (asked-at c) (c .before .before .before .before .before .before .before .before .before .before .before .before .before .before .before .before .before .before .before .args .change)
+    (accept (c .before .before .before .before .before .before .before .before .before .before .before .before) .0)))
 
 judged-requires : tie.Need-judged-requires Inv-loop μ-loop Inv-loop2 μ-loop2
 judged-requires c κs = search needs
@@ -338,16 +343,16 @@ enum-known-verdict-2 : tie.Need-enum-known-verdict-2 Inv-loop μ-loop Inv-loop2 
 enum-known-verdict-2 c = search needs
 
 returns : tie.Need-returns Inv-loop μ-loop Inv-loop2 μ-loop2
-returns c = (
-  turned-refused (c .before .before .before .before .before .before .args .self)
-      (c .before .before .before .before .before .before .args .now) (c .before .before .before .before .before .before .args .change)
-      (c .before .verdict2 .given .0 .0) (c .before .before .before .before .before .before .pre) (refused-call
-      (c .before .before .before .before .before .before .args .self) (c .before .before .before .before .before .before .args .now)
-      (c .before .before .before .before .before .before .args .change) (c .before .before .before .judged .result) (c .before .verdict2 .given .0 .0)
-      (c .before .before .before .before .before .before .pre) (c .before .before .before .judged .ensures)
-      (c .before .verdict2 .given .1)),
-  c .before .before .before .before .before .before .pre,
-)
+returns c = one-more (c .before .before .before .before .before .before .args .self)
+    (c .before .before .before .before .before .before .args .now) (c .before .before .before .before .before .before .args .change)
+    (c .before .before .before .before .before .before .pre) _
+    (turned-refused (c .before .before .before .before .before .before .args .self)
+    (c .before .before .before .before .before .before .args .now) (c .before .before .before .before .before .before .args .change)
+    (c .before .verdict2 .given .0 .0) (sound _ (c .before .before .before .before .before .before .pre)) (refused-call
+    (c .before .before .before .before .before .before .args .self) (c .before .before .before .before .before .before .args .now)
+    (c .before .before .before .before .before .before .args .change) (c .before .before .before .judged .result) (c .before .verdict2 .given .0 .0)
+    (sound _ (c .before .before .before .before .before .before .pre)) (c .before .before .before .judged .ensures)
+    (c .before .verdict2 .given .1)))
 
 mul-v : tie.Need-mul-v Inv-loop μ-loop Inv-loop2 μ-loop2
 mul-v c = omega (arith, few (c .before))
@@ -366,7 +371,7 @@ array-set-from-p c = omega (arith, few (c .before .before .before))
 
 loop-holds : tie.Need-loop-holds Inv-loop μ-loop Inv-loop2 μ-loop2
 loop-holds c = sweep-start (moment-of (c .before)) (core (c .before) .ids) (core (c .before) .n) (c .if1 .p) (afterCharge (card (core (c .before)))
-    (moment-of (c .before) .0)) (meets (c .before) .time) (after-charge c .filled) (after-charge c .good)
+    (moment-of (c .before) .0)) (meets (c .before) .not-above) (few (c .before)) (after-charge c .filled) (after-charge c .fits)
 
 mul-v-2 : tie.Need-mul-v-2 Inv-loop μ-loop Inv-loop2 μ-loop2
 mul-v-2 c = search needs
@@ -461,7 +466,7 @@ sub-n c = omega (
   arith,
   named-there (c .before .before .before .before .before .before) _
       (c .before .before .before .before .enum-told .given .1) .1,
-  after-return (c .before .before .before .before .before .before) .filled .count,
+  returned-there (c .before .before .before .before .before .before) .count,
 )
 
 mul-v-3 : tie.Need-mul-v-3 Inv-loop μ-loop Inv-loop2 μ-loop2
@@ -518,27 +523,17 @@ loop2-again c = let h : c .before .before .before .loop2 .j < c .before .before 
           ∙ c .before .before .before .loop2 .inv .3,
     )
 
-timer-at-requires : tie.Need-timer-at-requires Inv-loop μ-loop Inv-loop2 μ-loop2
-timer-at-requires c κs = search needs
+timer-for-requires : tie.Need-timer-for-requires Inv-loop μ-loop Inv-loop2 μ-loop2
+timer-for-requires c κs = search needs
 
 holder-requires : tie.Need-holder-requires Inv-loop μ-loop Inv-loop2 μ-loop2
 holder-requires c κs = search needs
 
-timer-of-requires : tie.Need-timer-of-requires Inv-loop μ-loop Inv-loop2 μ-loop2
-timer-of-requires c κs = search needs
+timer-said-requires : tie.Need-timer-said-requires Inv-loop μ-loop Inv-loop2 μ-loop2
+timer-said-requires c κs = search needs
 
 returns-2 : tie.Need-returns-2 Inv-loop μ-loop Inv-loop2 μ-loop2
-returns-2 c = (
-  answered-there c ∙ sym (turned-accepted (c .before .before .before .before .before .before .before .before .before .before .before .before .before
-      .before .before .before .before .before .before .args .self)
-      (c .before .before .before .before .before .before .before .before .before .before .before .before .before .before .before .before .before
-      .before .before .args .now) (c .before .before .before .before .before .before .before .before .before .before .before .before .before .before
-      .before .before .before .before .before .args .change) (accept
-      (c .before .before .before .before .before .before .before .before .before .before .before .before) .0)),
-  subst ValidCore (sym (ap (λ (x : Answer). x .core) (answered-there c))) (core-valid
-      (c .before .before .before .before .before .before .before .before .before .before .before .before .before .before .before .before .before
-      .before .before .args .now .0) (vs-of c) (time-of c) (good-there (c .before .before .before .before .before .before .before .before))),
-)
+returns-2 c = turned-there c _ refl
 
 pub turn-spec : {M : Type 1} → statement M
 turn-spec =
@@ -593,7 +588,7 @@ turn-spec =
     add-j
     loop2-less
     loop2-again
-    timer-at-requires
+    timer-for-requires
     holder-requires
-    timer-of-requires
+    timer-said-requires
     returns-2)

@@ -1,7 +1,7 @@
 -- `turns::judge::judged_admit` meets its contract: the rows of admit, in the table's order.
 -- Assumes nothing.
 use mathlib.Core.Path.{ap₂, ap, sym, _∙_}
-use Rattle.turns.specs.State.{idle}
+use Rattle.turns.specs.Written.{idle}
 use Rattle.turns.specs.Judge.{judgeAdmit}
 use lib.Dec.{ltb}
 use Rattle.rules.specs.Limits.{largestTunnel, inRange}

@@ -1,7 +1,7 @@
 -- `turns::judge::judged_naming` meets its contract: the rows of a call that names a VCPU.
 -- Assumes nothing.
 use Rattle.turns.specs.declared.Verdict.the-variants.{Go}
-use Rattle.turns.specs.State.{idle}
+use Rattle.turns.specs.Written.{idle}
 use Rattle.turns.specs.Judge.{judgeNaming}
 use lib.Dec.{leb, ltb}
 use Rattle.rules.specs.Limits.{largestTunnel}

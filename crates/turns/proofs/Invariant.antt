@@ -1,0 +1,102 @@
+-- What holds of every core that calls make (proofs/Made, `tied`): it shows the rules' card after the same calls, is what that card is
+-- written as, and its table is in the order of urgency. What the rules prove of such a card is drawn from there. Assumes nothing.
+use Prim.Native.Nat.{ℕ, _+_, _≤_}
+use mathlib.Core.Path.{_≡_, refl, sym, subst}
+use mathlib.Core.Bool.{Bool, true, false, cond}
+use mathlib.Core.List.{List, [], _∷_, map}
+use native.Mathlib.Omega.{arith}
+use lib.ListN.{length}
+use borrow.Author.Tests.{eqb-false}
+use Rattle.rules.specs.Lists.{count, All}
+use Rattle.rules.specs.Limits.{mostVcpus, mostPending}
+use Rattle.rules.specs.Vcpu.{Description, moreUrgent, named}
+use Rattle.rules.specs.Vcpu.{Vcpu as Tenant}
+use Rattle.rules.specs.Card.{Card}
+use Rattle.rules.specs.Turn.{Call}
+use Rattle.rules.specs.History.{after, past}
+use Rattle.rules.specs.Stays.{stays}
+use Rattle.rules.specs.Meaning.{InRange, pendingTicks, Sorted}
+use Rattle.rules.proofs.Named.{named-itself}
+use Rattle.rules.proofs.Sound.{Kept, Sound}
+use Rattle.rules.proofs.Reached.{Reached, reached}
+use Rattle.rules.proofs.Meaning.{meaning}
+use Rattle.turns.specs.declared.Core.{Core}
+use Rattle.turns.specs.Written.{card, coreOf}
+
+-- each is more urgent than all behind it
+abbrev pub Ranked : List Description → Type 0
+Ranked [] = Unit {0}
+Ranked (d ∷ l) = All (λ e. moreUrgent d e ≡ true) l × Ranked l
+
+-- no identifier stands twice
+abbrev pub Distinct : List Description → Type 0
+Distinct [] = Unit {0}
+Distinct (d ∷ l) = All (λ e. e .tunnel ≡ d .tunnel → ⊥) l × Distinct l
+
+abbrev pub termsOf : List Tenant → List Description
+termsOf vs = map (λ v. v .terms) vs
+
+pub record SoundCore (c : Core) : Type 0 where
+  pub written : c ≡ coreOf (card c)
+  pub calls : List Call
+  pub shows : card c ≡ after calls
+  pub ranked : Ranked (termsOf (card c .vcpus))
+
+-- the tenants between calls, at `last`
+pub record Between (last : ℕ) (vs : List Tenant) : Type 0 where
+  pub few : length vs ≤ mostVcpus
+  pub each : All (Sound last) vs
+  pub sorted : All (λ v. Sorted (v .pending)) vs
+  pub distinct : Distinct (termsOf vs)
+  pub ranked : Ranked (termsOf vs)
+
+-- the tenants within a call
+pub record Listed (vs : List Tenant) : Type 0 where
+  pub few : length vs ≤ mostVcpus
+  pub distinct : Distinct (termsOf vs)
+
+-- a tenant whose numbers fit its record
+pub record Fits (v : Tenant) : Type 0 where
+  pub range : InRange (v .terms)
+  pub whole : v .usable + pendingTicks v ≡ v .terms .capacity
+  pub few : length (v .pending) ≤ mostPending
+
+pub kept-fits : (low high now : ℕ) (v : Tenant) → Kept low high now v → Fits v
+kept-fits low high now v k = record { range = k .range; whole = k .whole; few = k .few }
+
+-- the rules count those so named; one that stands once stands nowhere else
+pub nowhere : (t : ℕ) (vs : List Tenant) → count (named t) vs ≡ 0 → All (λ e. e .tunnel ≡ t → ⊥) (termsOf vs)
+nowhere t [] h = tt
+nowhere t (v ∷ vs) h = go (named t v) refl h (nowhere t vs)
+  where
+    go : (b : Bool) → named t v ≡ b → cond b 1 0 + count (named t) vs ≡ 0 → (count (named t) vs ≡ 0 → All (λ e. e .tunnel ≡ t → ⊥) (termsOf vs))
+        → All (λ e. e .tunnel ≡ t → ⊥) (termsOf (v ∷ vs))
+    go true e g rec = absurd (omega arith)
+    go false e g rec = (eqb-false (v .terms .tunnel) t e, rec (omega arith))
+
+once-distinct : (vs : List Tenant) → ((t : ℕ) → count (named t) vs ≤ 1) → Distinct (termsOf vs)
+once-distinct [] h = tt
+once-distinct (v ∷ vs) h = (nowhere (v .terms .tunnel) vs (alone (h (v .terms .tunnel))), once-distinct vs (λ t. omega (arith, h t)))
+  where
+    alone : cond (named (v .terms .tunnel) v) 1 0 + count (named (v .terms .tunnel)) vs ≤ 1 → count (named (v .terms .tunnel)) vs ≡ 0
+    alone = rw (named-itself v) (λ g. omega arith)
+
+pub between-at : (k : Card) (calls : List Call) → k ≡ after calls → Ranked (termsOf (k .vcpus)) → Between (k .last) (k .vcpus)
+between-at k calls e r =
+    record {
+      few = reach .lawful .few;
+      each = reach .lawful .sound;
+      sorted = subst (λ (x : Card). All (λ v. Sorted (v .pending)) (x .vcpus)) (sym e) (meaning calls .sorted);
+      distinct = once-distinct (k .vcpus) (reach .lawful .once);
+      ranked = r;
+    }
+  where
+    reach : Reached k (stays calls) (past calls)
+    reach = subst (λ (x : Card). Reached x (stays calls) (past calls)) (sym e) (reached calls)
+
+module _ (c : Core) (r : SoundCore c) where
+  pub between : Between (card c .last) (card c .vcpus)
+  between = between-at (card c) (r .calls) (r .shows) (r .ranked)
+
+  pub card-reached : Reached (card c) (stays (r .calls)) (past (r .calls))
+  card-reached = subst (λ (x : Card). Reached x (stays (r .calls)) (past (r .calls))) (sym (r .shows)) (reached (r .calls))
