@@ -18,6 +18,10 @@ use Rattle.rules.specs.Turn.{Call, ok}
 use Rattle.rules.specs.History.{after}
 use Rattle.rules.specs.Meaning.{Meaning}
 use Rattle.rules.specs.Demand3.{Demand3}
+use Rattle.rules.specs.Rows.{Table, NoRow}
+use Rattle.rules.specs.Marks.{Marks}
+use Rattle.rules.proofs.Rows.{table as tableOf}
+use Rattle.rules.proofs.Marks.{marks as marksOf}
 use Rattle.rules.proofs.Meaning.{meaning as meaningOf}
 use Rattle.rules.proofs.Demand3.{demand3 as demand3Of}
 use Rattle.turns.specs.declared.Core.{Core}
@@ -120,6 +124,10 @@ pub record Promised (c : Core) (calls : List Asking) : Type 0 where
   pub replies : (now : Moment) (change : Change) → paperReply ((turned c now change) .reply) ≡ (turn (after (callsOf calls)) (callOf now change)) .reply
   pub names : (now : Moment) (change : Change) (r : Report) → (turned c now change) .reply ≡ Done r
       → paperHolder (r .run) ≡ after (callOf now change ∷ callsOf calls) .running
+  -- the reply table, and step 3
+  pub table : (now : Moment) (change : Change) → Table (card c) (callOf now change)
+  pub marks : (now : Moment) (change : Change) → NoRow (card c) (callOf now change)
+      → Marks (card c .vcpus) (asked change) (card ((turned c now change) .core) .vcpus)
 
 rule-names : (k : Card) (call : Call) (r : Told) → ok r ≡ (turn k call) .reply → r .run ≡ (turn k call) .card .running
 unfolding turn
@@ -139,6 +147,8 @@ promised c v =
       demand3 = demand3Of (callsOf (v .calls));
       replies = replies;
       names = λ now change r e. rule-names (after (callsOf (v .calls))) (callOf now change) _ (ap paperReply (sym e) ∙ replies now change);
+      table = λ now change. tableOf (card c) (callOf now change);
+      marks = marks;
     }
   where
     shows : card c ≡ after (callsOf (v .calls))
@@ -148,3 +158,13 @@ promised c v =
         → paperReply ((turned c now change) .reply) ≡ (turn (after (callsOf (v .calls))) (callOf now change)) .reply
     replies now change =
         paper-said ((turn (card c) (callOf now change)) .reply) ∙ ap (λ (k : Card). (turn k (callOf now change)) .reply) shows
+
+    marks : (now : Moment) (change : Change) → NoRow (card c) (callOf now change)
+        → Marks (card c .vcpus) (asked change) (card ((turned c now change) .core) .vcpus)
+    marks now change n =
+        let then : card ((turned c now change) .core) ≡ after (callOf now change ∷ callsOf (v .calls)) =
+        kept c (sound c v) now change .shows ∙ ap (λ (k : Card). (turn k (callOf now change)) .card) shows in
+        let old : Marks (after (callsOf (v .calls)) .vcpus) (asked change) (after (callOf now change ∷ callsOf (v .calls)) .vcpus) =
+        marksOf (callsOf (v .calls)) (callOf now change) (subst (λ (k : Card). NoRow k (callOf now change)) shows n) in
+        subst (λ (k : Card). Marks (card c .vcpus) (asked change) (k .vcpus)) (sym then)
+        (subst (λ (k : Card). Marks (k .vcpus) (asked change) (after (callOf now change ∷ callsOf (v .calls)) .vcpus)) (sym shows) old)

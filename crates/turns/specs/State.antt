@@ -20,6 +20,7 @@ abbrev pub made : List Asking → Core
 made [] = coreOf empty
 made (a ∷ calls) = (turned (made calls) (a .now) (a .change)) .core
 
+-- the empty core and the calls make this one
 pub record ValidCore (c : Core) : Type 0 where
   pub calls : List Asking
   pub made-by : c ≡ made calls
