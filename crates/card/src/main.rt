@@ -7,16 +7,22 @@ use lines::Served;
 use turns::Core;
 ghost use Prim.Native.Nat.{_+_, _-_, _^_, _≤_, _<_};
 ghost use mathlib.Core.Path.{_≡_};
-ghost use mathlib.Core.Bool.{true};
-ghost use lib.ListN.{length};
+ghost use mathlib.Core.Bool.{true, false};
+ghost use mathlib.Core.List.{_++_};
+ghost use mathlib.Core.Option.{none};
+ghost use lib.ListN.{length, take, drop};
+ghost use lib.Seq.{slice};
 ghost use Rattle.turns.specs.State.{ValidCore};
+ghost use Rattle.lines.specs.Text.{longest};
+ghost use Rattle.lines.specs.Serve.{serveOf};
+ghost use Rattle.card.specs.Rounds.{longestRecord, allWritten, Went};
 
 // A proved loop has to end, and nothing says that the input does: the program ends where it has used so many bytes,
 // which no run does.
 const MOST_BYTES: u64 = 18446744073709000000;
 
 // The core, the place of the first byte that waits for the rest of its record, how many wait, and whether to go on.
-struct Turn {
+struct Round {
     core: Core,
     offset: u64,
     held: usize,
@@ -36,7 +42,7 @@ fn is_written(out: &[u8], written: usize) -> bool
 // Moves the bytes from `from` to `end` to the front, and says how many they are.
 fn moved(input: &mut [u8], from: usize, end: usize) -> usize
     requires { ⌜ (from ≤ end) × (end ≤ length (now input)) ⌝ }
-    ensures { λ r. ⌜ r ≡ end - from ⌝ }
+    ensures { λ r. ⌜ (r ≡ end - from) × (now (input .exit) ≡ slice from end (now (input .entry)) ++ drop r (now (input .entry))) ⌝ }
 {
     let mut k = from;
     while k < end {
@@ -46,11 +52,12 @@ fn moved(input: &mut [u8], from: usize, end: usize) -> usize
     end - from
 }
 
-// Writes the line of every record before `end` that can be answered, in as many rounds as the room for lines asks for.
-// Nothing is left to be written; where a write fails it answers `stopped`.
+// Writes the line of every record before `end` that can be answered, in as many goes as the room for lines asks for.
+// Where a write fails it answers `stopped`.
 fn answered(core: Core, offset: u64, input: &[u8], end: usize, last: bool, out: &mut [u8]) -> Served
-    requires { ⌜ ValidCore core × (end ≤ length (now input)) × (offset + end < 2 ^ 64) ⌝ }
+    requires { ⌜ ValidCore core × (end ≤ length (now input)) × (longest ≤ length (now out)) × (offset + end < 2 ^ 64) ⌝ }
     ensures { λ r. ⌜ ValidCore (r .core) × (r .used ≤ end) ⌝ }
+    ensures { λ r. ⌜ (r .stopped ≡ false → r ≡ allWritten (serveOf core (take end (now (input .entry))) last none)) ⌝ }
 {
     let mut served = Served {
         core,
@@ -63,44 +70,31 @@ fn answered(core: Core, offset: u64, input: &[u8], end: usize, last: bool, out: 
         let place = offset + used as u64;
         served = lines::serve(served.core, &input[used..end], place, last, out);
         used += served.used;
-        let core = served.core;
-        if !is_written(out, served.written) {
+        let stopped = !is_written(out, served.written) || served.stopped;
+        if stopped || served.used == 0 {
+            let core = served.core;
             return Served {
                 core,
                 used,
                 written: 0,
-                stopped: true,
-            };
-        }
-        if served.stopped {
-            return Served {
-                core,
-                used,
-                written: 0,
-                stopped: true,
-            };
-        }
-        if served.used == 0 {
-            return Served {
-                core,
-                used,
-                written: 0,
-                stopped: false,
+                stopped,
             };
         }
     }
 }
 
-// Reads once behind the bytes that wait, and answers what can be answered.
-fn turned(core: Core, offset: u64, input: &mut [u8], held: usize, out: &mut [u8]) -> Turn
-    requires { ⌜ ValidCore core × (held ≤ length (now input)) × (offset + length (now input) < 2 ^ 64) ⌝ }
-    ensures { λ r. ⌜ ValidCore (r .core) × (r .held ≤ length (now (input .entry))) × (r .more ≡ true → offset + held < r .offset + r .held) ⌝ }
+// Reads once behind the bytes that wait, and answers what can be answered. There is room behind them, so that no byte
+// read means the end of the input.
+fn one_round(core: Core, offset: u64, input: &mut [u8], held: usize, out: &mut [u8]) -> Round
+    requires { ⌜ ValidCore core × (held < length (now input)) × (longest ≤ length (now out)) × (offset + length (now input) < 2 ^ 64) ⌝ }
+    ensures { λ r. ⌜ ValidCore (r .core) × (r .held < longestRecord) ⌝ }
+    ensures { λ r. ⌜ (r .more ≡ true → Went core offset (take held (now (input .entry))) (now (input .exit)) r) ⌝ }
 {
     let part = &mut input[held..];
     let got = libc::read(STDIN_FILENO, part);
     if got < 0 {
         io::write_all(STDERR_FILENO, b"card: a read failed\n");
-        return Turn {
+        return Round {
             core,
             offset,
             held: 0,
@@ -113,7 +107,7 @@ fn turned(core: Core, offset: u64, input: &mut [u8], held: usize, out: &mut [u8]
     let s = answered(core, offset, input, end, last, out);
     let core = s.core;
     if last || s.stopped {
-        return Turn {
+        return Round {
             core,
             offset,
             held: 0,
@@ -122,7 +116,7 @@ fn turned(core: Core, offset: u64, input: &mut [u8], held: usize, out: &mut [u8]
     }
     let used = s.used;
     let rest = moved(input, used, end);
-    Turn {
+    Round {
         core,
         offset: offset + used as u64,
         held: rest,
@@ -133,15 +127,15 @@ fn turned(core: Core, offset: u64, input: &mut [u8], held: usize, out: &mut [u8]
 fn main() {
     let mut input = io::large_buffer();
     let mut out = io::large_buffer();
-    let mut t = Turn {
+    let mut r = Round {
         core: Core::empty(),
         offset: 0,
         held: 0,
         more: true,
     };
-    while t.offset < MOST_BYTES {
-        t = turned(t.core, t.offset, &mut input, t.held, &mut out);
-        if !t.more {
+    while r.offset < MOST_BYTES {
+        r = one_round(r.core, r.offset, &mut input, r.held, &mut out);
+        if !r.more {
             return;
         }
     }

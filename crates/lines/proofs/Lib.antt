@@ -1,7 +1,8 @@
 -- The laws of `lines`: how long a line can be (Longest), what reading promises (Reading), serving (Served), serving in parts
--- (Parts), and that the promises allow one reply (OneReply). Assumes nothing.
+-- (Parts), what serving leaves (Rest), and that the promises allow one reply (OneReply). Assumes nothing.
 pub mod Longest
 pub mod Reading
 pub mod Served
 pub mod Parts
+pub mod Rest
 pub mod OneReply

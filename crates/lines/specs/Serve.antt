@@ -12,6 +12,7 @@ use Rattle.turns.specs.declared.Change.the-variants.{Admit as AskAdmit, Wake as
 use Rattle.turns.specs.declared.Refusal.{Refusal}
 use Rattle.turns.specs.declared.Core.{Core}
 use Rattle.turns.specs.declared.Answer.{Answer}
+use Rattle.turns.specs.State.{made}
 use Rattle.turns.specs.Calls.{turned}
 use Rattle.records.specs.declared.answers.Event.{Event}
 use Rattle.records.specs.declared.answers.Event.the-variants.{Admit, Wake, Block, Remove, Tick}
@@ -22,7 +23,7 @@ use Rattle.records.specs.Encode.{sizeOf}
 use Rattle.lines.specs.declared.serving.Served.{Served}
 use Rattle.lines.specs.Text.{lineOf, refusalText, longest}
 
--- the call that an event asks for
+-- the time and the change of the call that an event asks for
 abbrev pub timeOf : Event → Moment
 timeOf (Admit now d) = now
 timeOf (Wake now t) = now
@@ -49,7 +50,7 @@ pub record Run : Type 0 where
   pub lines : List ℕ
   pub stopped : Bool
 
--- nothing more is answered for now
+-- nothing more is answered for now: the next record waits for its rest, or its line for room, or there is none
 abbrev pub rests : Core → Run
 rests core = record { core = core; used = 0; lines = []; stopped = false }
 
@@ -69,7 +70,7 @@ abbrev pub behind : ℕ → List ℕ → Run → Run
 behind size line rest =
     record { core = rest .core; used = size + rest .used; lines = line ++ rest .lines; stopped = rest .stopped }
 
--- the room for lines, none for no limit
+-- whether a longest line has no room, and the room that a line leaves; `none` is room for all
 abbrev pub full : Option ℕ → Bool
 full none = false
 full (some room) = ltb room longest
@@ -85,16 +86,22 @@ answers next core s last room (Got e) =
     behind (sizeOf e) (lineOf (a .reply)) (next (a .core) (drop (sizeOf e) s) (less room (length (lineOf (a .reply)))))
 answers next core s last room (No r) = refuses core last r
 
--- "At the end of input the program asks for no further record": at most `fuel` records from the front of s
+-- the records at the front of s, at most `fuel` of them. "At the end of input the program asks for no further record":
+-- where no byte is left, or no room for a longest line, nothing is read
 unfoldable pub served : ℕ → Core → List ℕ → Bool → Option ℕ → Run
 served zero core s last room = rests core
 served (suc fuel) core s last room =
     cond (eqb (length s) 0 || full room) (rests core)
     (answers (λ core′ s′ room′. served fuel core′ s′ last room′) core s last room (readSpec s))
 
--- every record has a byte, so there are no more records than bytes
+-- all the records at the front of s that can be answered: each has a byte, so there are no more of them than bytes
 unfoldable pub serveOf : Core → List ℕ → Bool → Option ℕ → Run
 serveOf core s last room = served (length s) core s last room
 
+-- what the program writes for the whole of its input, from the core before any call
+abbrev pub cardLines : List ℕ → List ℕ
+cardLines input = serveOf (made []) input true none .lines
+
+-- what `serve` hands back: the lines stand in the room, and their length is told
 abbrev pub handed : Run → Served
 handed r = record { core = r .core; used = r .used; written = length (r .lines); stopped = r .stopped }

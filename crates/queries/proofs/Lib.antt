@@ -6,6 +6,7 @@ pub mod Asking
 pub mod Writing
 pub mod Parts
 pub mod OneReply
+pub mod Rest
 pub mod Fields
 pub mod Readings
 pub mod Kept

@@ -9,7 +9,7 @@ ghost use Prim.Native.Nat.{_≤_};
 ghost use lib.ListN.{length};
 
 // The line that has begun, and whether there may be more of it.
-struct Turn {
+struct Round {
     line: Line,
     more: bool,
 }
@@ -24,23 +24,22 @@ fn is_written(out: &[u8], count: usize) -> bool
     ok
 }
 
-// A part of the input, in as many goes as the room for its answers takes.
-fn answered(start: Line, input: &[u8], out: &mut [u8]) -> Turn {
+// A part of the input, in as many goes as the room for its answers takes. There is room for one answer, so that every go
+// reads a byte.
+fn answered(start: Line, input: &[u8], out: &mut [u8]) -> Round
+    requires { ⌜ 64 ≤ length (now out) ⌝ }
+{
     let mut line = start;
     let mut from = 0;
     while from < input.len() {
         let s = serve(line, &input[from..], out);
         line = s.line;
         if !is_written(out, s.count) {
-            return Turn { line, more: false };
-        }
-        // Every go reads a byte, since there is room for more than one answer.
-        if s.used == 0 {
-            return Turn { line, more: false };
+            return Round { line, more: false };
         }
         from += s.used;
     }
-    Turn { line, more: true }
+    Round { line, more: true }
 }
 
 fn is_told(text: &[u8; 64], count: usize) -> bool
@@ -50,19 +49,21 @@ fn is_told(text: &[u8; 64], count: usize) -> bool
 }
 
 // The end of the input ends the last line.
-fn finished(line: Line) -> Turn {
+fn finished(line: Line) -> Round {
     let mut text = [0u8; 64];
     let n = line.answer(&mut text);
     is_told(&text, n);
-    Turn { line, more: false }
+    Round { line, more: false }
 }
 
 // Reads once, and writes the answers to the lines that ended.
-fn turned(line: Line, input: &mut [u8], out: &mut [u8]) -> Turn {
+fn one_round(line: Line, input: &mut [u8], out: &mut [u8]) -> Round
+    requires { ⌜ 64 ≤ length (now out) ⌝ }
+{
     let got = libc::read(STDIN_FILENO, input);
     if got < 0 {
         io::write_all(STDERR_FILENO, b"sizing: a read failed\n");
-        return Turn { line, more: false };
+        return Round { line, more: false };
     }
     if got == 0 {
         return finished(line);
@@ -71,19 +72,19 @@ fn turned(line: Line, input: &mut [u8], out: &mut [u8]) -> Turn {
     answered(line, &input[..n], out)
 }
 
-// A proved loop has to end, and nothing says that the input does. So the loop counts its turns down
+// A proved loop has to end, and nothing says that the input does. So the loop counts its rounds down
 // from a number that no run uses up.
 fn main() {
     let mut input = io::large_buffer();
     let mut out = io::buffer();
     let mut line = Line::start();
-    let mut turns = u64::MAX;
-    while turns > 0 {
-        let t = turned(line, &mut input, &mut out);
-        if !t.more {
+    let mut rounds = u64::MAX;
+    while rounds > 0 {
+        let r = one_round(line, &mut input, &mut out);
+        if !r.more {
             return;
         }
-        line = t.line;
-        turns -= 1;
+        line = r.line;
+        rounds -= 1;
     }
 }

@@ -1,20 +1,22 @@
--- `moved` stays within the slice, whose length it keeps. Assumes nothing.
-use Prim.Native.Nat.{_-_, _≤_}
-use mathlib.Core.Path.{_≡_}
+-- `moved` keeps the bytes that it has not moved yet, and the length. Assumes nothing.
+use Prim.Native.Nat.{ℕ, _-_, _≤_}
+use mathlib.Core.Path.{_≡_, refl, ap, _∙_}
 use native.Mathlib.Omega.{arith}
-use lib.ListN.{length, length-set}
+use mathlib.Core.List.{List}
+use lib.ListN.{length, set, getD, length-set}
 use borrow.Author.Needs.{needs}
+use Rattle.card.proofs.Moving.{inFront, none-moved, one-moved}
 use Rattle.card.proofs.moved.Statement.{statement}
 use Rattle.card.proofs.moved.Tie as tie
 
 abbrev Inv-loop : tie.InvT-loop
-Inv-loop input₀ from end k₀ input k = (from ≤ k) × (k ≤ end) × (length input ≡ length input₀)
+Inv-loop input₀ from end k₀ input k = (from ≤ k) × (k ≤ end) × (length input ≡ length input₀) × (input ≡ inFront from k input₀)
 
 abbrev μ-loop : tie.MeasureT-loop
 μ-loop input₀ from end k₀ input k = end - k
 
 loop-holds : tie.Need-loop-holds Inv-loop μ-loop
-loop-holds c = search needs
+loop-holds c = (omega arith, omega arith, refl, none-moved (c .args .from) (c .args .input .now))
 
 slice-read-input : tie.Need-slice-read-input Inv-loop μ-loop
 slice-read-input c = search needs
@@ -32,7 +34,15 @@ loop-less : tie.Need-loop-less Inv-loop μ-loop
 loop-less c = search needs
 
 loop-again : tie.Need-loop-again Inv-loop μ-loop
-loop-again c = (omega arith, omega arith, simp length-set (omega arith))
+loop-again c =
+    let l = c .before .before .loop in
+    let from = c .before .before .before .args .from in
+    let first = c .before .before .before .args .input .now in (
+      omega arith,
+      omega arith,
+      simp length-set (omega arith),
+      ap (λ (xs : List ℕ). set xs (l .k - from) (getD xs (l .k) 0)) (l .inv .3) ∙ one-moved from (l .k) first (omega arith) (omega arith),
+    )
 
 sub-result : tie.Need-sub-result Inv-loop μ-loop
 sub-result c = search needs
@@ -41,7 +51,11 @@ same-length : tie.Need-same-length Inv-loop μ-loop
 same-length c = omega (arith, c .before .loop .inv)
 
 returns : tie.Need-returns Inv-loop μ-loop
-returns c = search needs
+returns c =
+    let l = c .before .loop in
+    let from = c .before .before .args .from in
+    let last : l .k ≡ c .before .before .args .end = omega arith in
+    (refl, l .inv .3 ∙ ap (λ (n : ℕ). inFront from n (c .before .before .args .input .now)) last)
 
 pub moved-spec : {M : Type 1} → statement M
 moved-spec =

@@ -1,8 +1,11 @@
 -- `answered` ends: each go reads a byte. Assumes nothing.
 use mathlib.Core.Path.{_≡_}
-use lib.ListN.{length}
 use Prim.Native.Nat.{_≤_, _-_}
+use native.Mathlib.Omega.{arith}
+use lib.ListN.{length, take, drop, length-drop}
+use lib.Seq.{length-take-le}
 use borrow.Author.Needs.{needs}
+use Rattle.queries.proofs.Rest.{some-used}
 use Rattle.sizing.proofs.answered.Statement.{statement}
 use Rattle.sizing.proofs.answered.Tie as tie
 
@@ -36,26 +39,27 @@ same-length c = search needs
 returns : tie.Need-returns Inv-loop μ-loop
 returns c = search needs
 
+add-from : tie.Need-add-from Inv-loop μ-loop
+add-from c = search needs
+
+loop-less : tie.Need-loop-less Inv-loop μ-loop
+loop-less c =
+    let l = c .before .before .before .before .before .before .before .before .before .before .before .loop in
+    let left = c .before .before .before .before .before .before .before .before .before .before .loop-test .taken in
+    let input = c .before .before .before .before .before .before .before .before .before .before .before .before .before .before .args .input .now in
+    let part = take (length input - l .from) (drop (l .from) input) in
+    let s = c .before .before .before .before .before .before .before .serve in
+    let size = length-take-le (length input - l .from) (drop (l .from) input) (omega (arith, length-drop (l .from) input)) in
+    omega (arith, left, some-used (l .line) part (l .out) (s .last .1 .1 .0) (s .result) (s .ensures) (omega (arith, c .before .before .before .before .before .before .before .before .before .before .before .before .before .before .pre, l .inv .1)) (omega (arith, left, size)))
+
+loop-again : tie.Need-loop-again Inv-loop μ-loop
+loop-again c = search needs
+
 same-length-2 : tie.Need-same-length-2 Inv-loop μ-loop
 same-length-2 c = search needs
 
 returns-2 : tie.Need-returns-2 Inv-loop μ-loop
 returns-2 c = search needs
-
-add-from : tie.Need-add-from Inv-loop μ-loop
-add-from c = search needs
-
-loop-less : tie.Need-loop-less Inv-loop μ-loop
-loop-less c = search needs
-
-loop-again : tie.Need-loop-again Inv-loop μ-loop
-loop-again c = search needs
-
-same-length-3 : tie.Need-same-length-3 Inv-loop μ-loop
-same-length-3 c = search needs
-
-returns-3 : tie.Need-returns-3 Inv-loop μ-loop
-returns-3 c = search needs
 
 pub answered-spec : {M : Type 1} → statement M
 answered-spec =
@@ -71,10 +75,8 @@ answered-spec =
     is-written-requires
     same-length
     returns
-    same-length-2
-    returns-2
     add-from
     loop-less
     loop-again
-    same-length-3
-    returns-3)
+    same-length-2
+    returns-2)

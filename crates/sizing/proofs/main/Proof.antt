@@ -1,4 +1,4 @@
--- `main` is safe and ends: the measure is the number of turns that are left. Assumes nothing.
+-- `main` is safe and ends: the measure is the number of rounds that are left. Assumes nothing.
 use lib.ListN.{length}
 use mathlib.Core.Path.{_≡_}
 use borrow.Author.Needs.{needs}
@@ -6,10 +6,10 @@ use Rattle.sizing.proofs.main.Statement.{statement}
 use Rattle.sizing.proofs.main.Tie as tie
 
 abbrev Inv-loop : tie.InvT-loop
-Inv-loop input₀ out₀ line₀ turns₀ input out line turns = (65536 ≡ length input) × (4096 ≡ length out)
+Inv-loop input₀ out₀ line₀ rounds₀ input out line rounds = (65536 ≡ length input) × (4096 ≡ length out)
 
 abbrev μ-loop : tie.MeasureT-loop
-μ-loop input₀ out₀ line₀ turns₀ input out line turns = turns
+μ-loop input₀ out₀ line₀ rounds₀ input out line rounds = rounds
 
 large-buffer-requires : tie.Need-large-buffer-requires Inv-loop μ-loop
 large-buffer-requires c κs = search needs
@@ -23,20 +23,20 @@ start-requires c κs = search needs
 loop-holds : tie.Need-loop-holds Inv-loop μ-loop
 loop-holds c = search needs
 
-slice-aggregate-turned : tie.Need-slice-aggregate-turned Inv-loop μ-loop
-slice-aggregate-turned c = search needs
+slice-aggregate-one-round : tie.Need-slice-aggregate-one-round Inv-loop μ-loop
+slice-aggregate-one-round c = search needs
 
-slice-aggregate-turned-2 : tie.Need-slice-aggregate-turned-2 Inv-loop μ-loop
-slice-aggregate-turned-2 c = search needs
+slice-aggregate-one-round-2 : tie.Need-slice-aggregate-one-round-2 Inv-loop μ-loop
+slice-aggregate-one-round-2 c = search needs
 
-turned-requires : tie.Need-turned-requires Inv-loop μ-loop
-turned-requires c κs = search needs
+one-round-requires : tie.Need-one-round-requires Inv-loop μ-loop
+one-round-requires c κs = search needs
 
 returns : tie.Need-returns Inv-loop μ-loop
 returns c = search needs
 
-sub-turns : tie.Need-sub-turns Inv-loop μ-loop
-sub-turns c = search needs
+sub-rounds : tie.Need-sub-rounds Inv-loop μ-loop
+sub-rounds c = search needs
 
 loop-less : tie.Need-loop-less Inv-loop μ-loop
 loop-less c = search needs
@@ -57,11 +57,11 @@ main-spec =
     buffer-requires
     start-requires
     loop-holds
-    slice-aggregate-turned
-    slice-aggregate-turned-2
-    turned-requires
+    slice-aggregate-one-round
+    slice-aggregate-one-round-2
+    one-round-requires
     returns
-    sub-turns
+    sub-rounds
     loop-less
     loop-again
     returns-2)

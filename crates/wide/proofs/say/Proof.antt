@@ -6,7 +6,8 @@ use native.Mathlib.Omega.{arith}
 use lib.ListN.{length, drop, replicate, length-append}
 use lib.Seq.{length-take-le}
 use borrow.Author.Needs.{needs}
-use Rattle.lines.specs.Text.{lineIn, over}
+use Rattle.text.specs.Text.{over}
+use Rattle.lines.specs.Text.{lineIn}
 use Rattle.wide.proofs.say.Statement.{statement}
 use Rattle.wide.proofs.say.Tie as tie
 
