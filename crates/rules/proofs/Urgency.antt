@@ -1,13 +1,12 @@
--- "Smaller is more urgent; at equal priority the smaller identifier is" is a strict order, total on different identifiers,
--- and the order of one number, priority · 2^24 + identifier, where the identifiers have 24 bits. Assumes nothing.
+-- "Smaller is more urgent; at equal priority the smaller identifier is" is a strict order, total on different identifiers.
+-- Assumes nothing.
 use mathlib.Core.Path.{_≡_, refl, sym}
 use mathlib.Core.Bool.{true, false, _&&_}
 use mathlib.Core.Logic.{_⊎_, inl, inr, ⊎-elim}
-use Prim.Native.Nat.{ℕ, _+_, _*_, _≤_, _<_}
+use Prim.Native.Nat.{_≤_, _<_}
 use native.Mathlib.Omega.{arith}
 use lib.Dec.{ltb, eqb}
 use borrow.Author.Tests.{ltb-true, ltb-false, eqb-true, eqb-false, lt-ltb, le-ltb, eq-eqb, ne-eqb}
-use Rattle.rules.specs.Limits.{largestTunnel}
 use Rattle.rules.specs.Vcpu.{Description, moreUrgent}
 use Rattle.rules.proofs.Tests.{cases, and-true, and-false, or-true, or-false, or-right}
 
@@ -90,17 +89,3 @@ total a b n e = urgent b a (go (not-before a b e))
     go : NotBefore a b → Before b a
     go (inl h) = inl h
     go (inr p) = inr (p .0, omega arith)
-
-abbrev pub rank : Description → ℕ
-rank d = d .priority * 16_777_216 + d .tunnel
-
-pub by-rank : (a b : Description) → a .tunnel ≤ largestTunnel → b .tunnel ≤ largestTunnel → moreUrgent a b ≡ ltb (rank a) (rank b)
-by-rank a b ha hb = ⊎-elim (λ e. up e (before a b e)) (λ e. down e (not-before a b e)) (cases (moreUrgent a b))
-  where
-    up : moreUrgent a b ≡ true → Before a b → moreUrgent a b ≡ ltb (rank a) (rank b)
-    up e (inl h) = rw (e, lt-ltb (rank a) (rank b) (omega arith))
-    up e (inr p) = rw (e, lt-ltb (rank a) (rank b) (omega arith))
-
-    down : moreUrgent a b ≡ false → NotBefore a b → moreUrgent a b ≡ ltb (rank a) (rank b)
-    down e (inl h) = rw (e, le-ltb (rank a) (rank b) (omega arith))
-    down e (inr p) = rw (e, le-ltb (rank a) (rank b) (omega arith))

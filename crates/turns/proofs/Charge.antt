@@ -15,6 +15,7 @@ use Rattle.rules.specs.Vcpu.{Entry}
 use Rattle.rules.specs.Vcpu.{Vcpu as Tenant}
 use Rattle.rules.specs.Charge.{toLast, waiting, joins, posted, charged}
 use Rattle.rules.proofs.Tests.{clash, and-true}
+use Rattle.rules.proofs.Queue.{same-length}
 use Rattle.turns.specs.declared.Vcpu.{Vcpu}
 use Rattle.turns.specs.Laid.{laid}
 use Rattle.turns.specs.Written.{never, dueOf, amountOf, written}
@@ -30,11 +31,6 @@ last-set f (e ∷ []) h = refl
 last-set f (e ∷ g ∷ q) h =
     let n : length (e ∷ g ∷ q) - 1 ≡ suc (length (g ∷ q) - 1) = omega arith in
     rw n (ap (λ (r : List Entry). e ∷ r) (last-set f (g ∷ q) (omega arith)))
-
-last-length : (f : Entry → Entry) (q : List Entry) → length (toLast f q) ≡ length q
-last-length f [] = refl
-last-length f (e ∷ []) = refl
-last-length f (e ∷ g ∷ q) = ap suc (last-length f (g ∷ q))
 
 -- the two arrays of a queue whose last entry was changed
 module _ (f : Entry → Entry) (q : List Entry) (h : 0 < length q) (g : length q ≤ 8) where
@@ -83,7 +79,7 @@ module _ (last d : ℕ) (v : Tenant) (few : length (v .pending) ≤ 8) (fits : l
       (sym (laid-last f q h few dueOf (moment never) ∙ ap (set (laid 8 dueOf (moment never) q) n) (last-due f q h few) ∙ set-getD (laid 8 dueOf
       (moment never) q) n (moment 0)))
       (ap (λ (m : ℕ). set (laid 8 amountOf (amount 0) q) n (amount (m + d))) (last-ticks f q h few) ∙ sym (laid-last f q h few amountOf (amount 0)))
-      (sym (last-length f q))
+      (sym (same-length f q))
     where
       q : List Entry
       q = v .pending
@@ -104,7 +100,7 @@ module _ (last d : ℕ) (v : Tenant) (few : length (v .pending) ≤ 8) (fits : l
       (length q) (length (toLast f q))
       (ap (set (laid 8 dueOf (moment never) q) n) due-fits ∙ sym (laid-last f q h few dueOf (moment never)))
       (ap (λ (m : ℕ). set (laid 8 amountOf (amount 0) q) n (amount (m + d))) (last-ticks f q h few) ∙ sym (laid-last f q h few amountOf (amount 0)))
-      (sym (last-length f q))
+      (sym (same-length f q))
     where
       q : List Entry
       q = v .pending

@@ -25,7 +25,7 @@ use Rattle.rules.specs.History.{holds as isHeldBy}
 use Rattle.rules.proofs.Tests.{no-some}
 use Rattle.rules.proofs.Lists.{all-imp}
 use Rattle.rules.proofs.Sound.{Sound, kept-charged}
-use Rattle.rules.proofs.Advance.{terms-stepped}
+use Rattle.rules.proofs.Advance.{terms-charged}
 use Rattle.rules.proofs.Accepted.{Passed, in-time}
 use Rattle.turns.specs.declared.Vcpu.{Vcpu}
 use Rattle.turns.specs.declared.Core.{Core}
@@ -240,13 +240,8 @@ module _ (c : Core) (r : SoundCore c) (now : Moment) (change : Change) (m : Pass
       ∙ named-set (w .terms .tunnel) (charged (card c .last) (now .0)) noTenant (card c .vcpus) (between c r .distinct) (h .at .inside)
       ∙ ap (λ (x : Tenant). set (card c .vcpus) (place (w .terms .tunnel) (card c .vcpus)) (charged (card c .last) (now .0) x)) (h .at .is)
 
-  charged-terms : charged (card c .last) (now .0) w .terms ≡ w .terms
-  charged-terms =
-      ap (λ (b : Bool). (cond b (charged (card c .last) (now .0) w) w) .terms) (sym (eq-eqb (w .terms .tunnel) (w .terms .tunnel) refl))
-      ∙ terms-stepped (card c .last) (now .0) (some (w .terms .tunnel)) w
-
   terms-kept : charged (card c .last) (now .0) w .terms ≡ getD (card c .vcpus) (place (w .terms .tunnel) (card c .vcpus)) noTenant .terms
-  terms-kept = charged-terms ∙ ap (λ (x : Tenant). x .terms) (sym (h .at .is))
+  terms-kept = terms-charged (card c .last) (now .0) w ∙ ap (λ (x : Tenant). x .terms) (sym (h .at .is))
 
   charged-fits : Fits (charged (card c .last) (now .0) w)
   charged-fits =

@@ -9,8 +9,6 @@ use Rattle.text.specs.Text.{decimal}
 use Rattle.text.proofs.Writing.{put-size, put-letters, put-two, put-as}
 use Rattle.lines.proofs.line.put_report.Statement.{statement}
 use Rattle.lines.proofs.line.put_report.Tie as tie
-use Rattle.units.proofs.Amount.ticks.Reads as Amount-ticks-reads
-use Rattle.units.proofs.Moment.ticks.Reads as Moment-ticks-reads
 
 slice-write-out : tie.Need-slice-write-out
 slice-write-out c = search needs
