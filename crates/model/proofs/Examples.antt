@@ -2,14 +2,18 @@
 -- Assumes nothing.
 use Prim.Native.Nat.{ℕ, _≤_}
 use mathlib.Core.Path.{_≡_, refl}
+use mathlib.Core.Logic.{inl, inr}
 use native.Mathlib.Omega.{arith}
 use Rattle.model.specs.Supply.{supplyOf}
 use Rattle.model.specs.Share.{meets, passes, leastOf, better, bestOf}
 use Rattle.model.specs.Reply.{refuses}
 use Rattle.model.specs.Rows.{tasksRow, tasksRows, supplyReply, demandReply, checkReply, leastReply, bestReply}
 use Rattle.model.specs.Meaning.{NoBudget}
-use Rattle.model.specs.Examples.{least, W11, replyTo, Hold, examples}
+use Rattle.model.specs.Asked.{least, replyTo}
+use Rattle.model.specs.Table.{row-30, row-31, row-32, row-33, row-34, row-35, Accepted}
+use Rattle.model.specs.Examples.{W11, Hold, examples}
 use Rattle.model.proofs.Supply.{supply-most}
+use Rattle.model.proofs.Table.{count-out, task-out, period-falls}
 use Rattle.model.proofs.Replies.{least-34}
 
 -- task 2 of P11 demands 3, 3, 5, 5 at t = 1 .. 4
@@ -18,9 +22,17 @@ too-much P B from to pass =
     let m = pass 2 (omega arith) (omega arith) in
     absurd (omega (arith, m .from-1, m .to-p, m .enough, supply-most P B (m .t) to))
 
+in-order : (P : ℕ) → 1 ≤ P → P ≤ 2000 → Accepted (least W11 P)
+in-order P from to n l (row-30 x) = count-out W11 .1 refl x
+in-order P from to n l (row-31 x) = task-out W11 .1 refl x
+in-order P from to n l (row-32 x) = period-falls W11 .1 refl x
+in-order P from to n l (row-33 (inl x)) = omega (arith, x)
+in-order P from to n l (row-33 (inr x)) = omega (arith, x)
+in-order P from to n l (row-35 x) = x
+in-order P from to n l (row-34 x) = omega (arith, l)
+
 p11 : (P : ℕ) → 1 ≤ P → P ≤ 2000 → replyTo (least W11 P) ≡ refuses 34 0
-unfolding tasksRow
-p11 P from to = least-34 (W11 .periods) (W11 .costs) P .1 ((refl, from, to), too-much P)
+p11 P from to = least-34 W11 P .1 (in-order P from to, too-much P)
 
 -- the others by computing
 with-p11 : (P : ℕ) → replyTo (least W11 P) ≡ refuses 34 0 → Hold (examples P)

@@ -1,6 +1,7 @@
 -- The theorems on what the definitions mean (Meaning, Replies) and P1 to P12 (Examples), and the laws that carry them.
 -- Assumes nothing.
 pub mod Meaning
+pub mod Table
 pub mod Replies
 pub mod Examples
 pub mod Tests

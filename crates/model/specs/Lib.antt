@@ -1,5 +1,5 @@
--- Document 01, "Supply, demand, least share", rows 30 to 35 and the sizing examples, in reading order. Meaning says the same as plain
--- statements. Numbers are plain numbers here, however large. Assumes nothing.
+-- Document 01, "Supply, demand, least share", rows 30 to 35 and the sizing examples, in reading order. Meaning and Table say the same as
+-- plain statements. Numbers are plain numbers here, however large. Assumes nothing.
 pub mod Search
 pub mod Supply
 pub mod Demand
@@ -7,4 +7,6 @@ pub mod Share
 pub mod Reply
 pub mod Rows
 pub mod Meaning
+pub mod Asked
+pub mod Table
 pub mod Examples

@@ -1,4 +1,4 @@
--- Document 01's sentences on shares as plain statements, with no test and no search in them but for the rows 30 to 32 of `Accepted`.
+-- Document 01's sentences on shares as plain statements, with no test and no search in them.
 -- proofs/Meaning.antt shows that the definitions of specs/Share.antt say the same, proofs/Replies.antt that the replies do. Assumes nothing.
 use Prim.Native.Nat.{ℕ, _-_, _*_, _≤_}
 use mathlib.Core.Path.{_≡_}
@@ -7,7 +7,6 @@ use lib.ListN.{length, getD}
 use Rattle.model.specs.Supply.{supplyOf}
 use Rattle.model.specs.Demand.{demandOf}
 use Rattle.model.specs.Share.{Share}
-use Rattle.model.specs.Rows.{tasksRow}
 
 -- there is a whole t from 1 to p_i with supply at least demand
 pub record Met (P B : ℕ) (periods costs : List ℕ) (i : ℕ) : Type 0 where
@@ -42,7 +41,3 @@ pub record IsBest (n : ℕ) (periods costs : List ℕ) (best : Share) : Type 0 w
 -- no period from 1 to n has a budget that passes
 abbrev pub NoShare : ℕ → List ℕ → List ℕ → Type 0
 NoShare n periods costs = (Q : ℕ) → 1 ≤ Q → Q ≤ n → NoBudget Q periods costs
-
--- rows 30 to 33 do not apply: `least` for P, `best` up to P
-abbrev pub Accepted : List ℕ → List ℕ → ℕ → Type 0
-Accepted periods costs P = (tasksRow periods costs ≡ 0) × (1 ≤ P) × (P ≤ 2000)

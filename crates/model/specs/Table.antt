@@ -1,0 +1,106 @@
+-- Document 01, "Reply numbers", rows 30 to 35, as plain facts: where each applies, that the first from the top that does is given, and
+-- what is given where none does. Proved of everything that can be asked in proofs/Table. Assumes nothing.
+use Prim.Native.Nat.{ℕ, _-_, _≤_, _<_}
+use mathlib.Core.Path.{_≡_}
+use mathlib.Core.Logic.{_⊎_, _↔_}
+use mathlib.Core.List.{List, [], _∷_}
+use lib.ListN.{length, getD}
+use Rattle.model.specs.Supply.{supplyOf}
+use Rattle.model.specs.Demand.{demandOf}
+use Rattle.model.specs.Share.{Share}
+use Rattle.model.specs.Reply.{refuses, gives}
+use Rattle.model.specs.Meaning.{Pass, IsLeast, NoBudget, IsBest, NoShare}
+use Rattle.model.specs.Asked.{Work, Asked, supply, demand, check, least, best, replyTo}
+
+abbrev pub Outside : ℕ → ℕ → ℕ → Type 0
+Outside low high n = (n < low) ⊎ (high < n)
+
+-- a period is 1 to 2,000, an amount 1 to its period; one of them is not
+abbrev pub OutOfRange : ℕ → ℕ → Type 0
+OutOfRange P B = Outside 1 2000 P ⊎ Outside 1 P B
+
+-- "no tasks, more than 16, or as many periods as costs don't stand"
+abbrev pub Miscounted : Work → Type 0
+Miscounted w = (length (w .periods) ≡ 0) ⊎ (16 < length (w .periods)) ⊎ (length (w .periods) ≡ length (w .costs) → ⊥)
+
+-- "a task period out of range, or a cost not 1 to its period": of a task k, whichever
+abbrev pub TaskOut : Work → Type 0
+TaskOut w = (k : ℕ) × (1 ≤ k) × (k ≤ length (w .periods)) × OutOfRange (getD (w .periods) (k - 1) 0) (getD (w .costs) (k - 1) 0)
+
+-- "a task's period is below the one before": of a task k, whichever but the first
+abbrev pub PeriodFalls : Work → Type 0
+PeriodFalls w = (k : ℕ) × (2 ≤ k) × (k ≤ length (w .periods)) × (getD (w .periods) (k - 1) 0 < getD (w .periods) (k - 2) 0)
+
+-- said of the tasks; a supply has none
+abbrev pub OfTasks : (Work → Type 0) → Asked → Type 0
+OfTasks Said (supply P B t) = ⊥
+OfTasks Said (demand w i t) = Said w
+OfTasks Said (check w P B) = Said w
+OfTasks Said (least w P) = Said w
+OfTasks Said (best w P-max) = Said w
+
+-- "resource period, P_max or budget out of range (budget 1 to period)"; a demand has none of them
+abbrev pub ShareOut : Asked → Type 0
+ShareOut (supply P B t) = OutOfRange P B
+ShareOut (demand w i t) = ⊥
+ShareOut (check w P B) = OutOfRange P B
+ShareOut (least w P) = Outside 1 2000 P
+ShareOut (best w P-max) = Outside 1 2000 P-max
+
+-- "length asked is above 2,000, or task place isn't in the list"; only supply and demand ask for a length
+abbrev pub LengthOut : Asked → Type 0
+LengthOut (supply P B t) = 2000 < t
+LengthOut (demand w i t) = (2000 < t) ⊎ Outside 1 (length (w .periods)) i
+LengthOut (check w P B) = ⊥
+LengthOut (least w P) = ⊥
+LengthOut (best w P-max) = ⊥
+
+-- "no budget passes"; only least and best look for one
+abbrev pub NonePasses : Asked → Type 0
+NonePasses (supply P B t) = ⊥
+NonePasses (demand w i t) = ⊥
+NonePasses (check w P B) = ⊥
+NonePasses (least w P) = NoBudget P (w .periods) (w .costs)
+NonePasses (best w P-max) = NoShare P-max (w .periods) (w .costs)
+
+-- the row with this number concerns what is asked, and applies
+pub data Row (asked : Asked) : ℕ → Type 0 where
+  row-30 : OfTasks Miscounted asked → Row asked 30
+  row-31 : OfTasks TaskOut asked → Row asked 31
+  row-32 : OfTasks PeriodFalls asked → Row asked 32
+  row-33 : ShareOut asked → Row asked 33
+  row-35 : LengthOut asked → Row asked 35
+  row-34 : NonePasses asked → Row asked 34
+
+-- the table from the top
+abbrev pub rows : List ℕ
+rows = 30 ∷ 31 ∷ 32 ∷ 33 ∷ 35 ∷ 34 ∷ []
+
+-- "the first from the top that applies is given, whatever its number"; places in the table are counted from 0
+pub record First (asked : Asked) (number : ℕ) : Type 0 where
+  pub place : ℕ
+  pub stands : getD rows place 0 ≡ number
+  pub applies : Row asked number
+  pub none-above : (p : ℕ) → p < place → Row asked (getD rows p 0) → ⊥
+
+abbrev pub NoRow : Asked → Type 0
+NoRow asked = (number : ℕ) → Row asked number → ⊥
+
+-- these values are the result: "passes" is 1, "doesn't" is 0
+abbrev pub Result : Asked → List ℕ → Type 0
+Result (supply P B t) values = values ≡ supplyOf P B t ∷ []
+Result (demand w i t) values = values ≡ demandOf (w .periods) (w .costs) i t ∷ []
+Result (check w P B) values =
+    ((values ≡ 1 ∷ []) × Pass P B (w .periods) (w .costs)) ⊎ ((values ≡ 0 ∷ []) × (Pass P B (w .periods) (w .costs) → ⊥))
+Result (least w P) values = (B : ℕ) × (values ≡ B ∷ []) × IsLeast P (w .periods) (w .costs) B
+Result (best w P-max) values = (s : Share) × (values ≡ s .period ∷ s .budget ∷ []) × IsBest P-max (w .periods) (w .costs) s
+
+-- "Given exactly when", with detail 0; and there is a result exactly when no row applies
+pub record Table (asked : Asked) : Type 0 where
+  pub refused : (number detail : ℕ) → replyTo asked ≡ refuses number detail ↔ First asked number × (detail ≡ 0)
+  pub given : (values : List ℕ) → replyTo asked ≡ gives values ↔ NoRow asked × Result asked values
+  pub answered : ((values : List ℕ) × (replyTo asked ≡ gives values)) ↔ NoRow asked
+
+-- rows 30 to 33 do not apply
+abbrev pub Accepted : Asked → Type 0
+Accepted asked = (number : ℕ) → number ≤ 33 → Row asked number → ⊥
