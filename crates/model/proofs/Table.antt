@@ -1,12 +1,12 @@
 -- The reply table, rows 30 to 35: a row's number is given exactly when it is the first that applies, and a result, the right one, exactly
 -- when none does. Of everything that can be asked. Assumes nothing.
-use Prim.Native.Nat.{ℕ, zero, suc, _-_, _≤_, _<_}
+use Prim.Native.Nat.{ℕ, suc, _-_, _≤_, _<_}
 use mathlib.Core.Path.{_≡_, refl, ap, sym, _∙_, subst}
 use mathlib.Core.Bool.{Bool, true, false, cond, not, _&&_, _||_}
 use mathlib.Core.List.{List, [], _∷_}
 use mathlib.Core.Logic.{_⊎_, inl, inr, ⊎-elim}
 use native.Mathlib.Omega.{arith}
-use native.Mathlib.Nat.{eq-zero-or-pos, le-suc-iff}
+use native.Mathlib.Nat.{le-suc-iff}
 use lib.Dec.{leb, ltb, eqb}
 use borrow.Author.Tests.{leb-true, leb-false, ltb-true, ltb-false, eqb-true, eqb-false}
 use lib.ListN.{length, getD}
@@ -16,7 +16,6 @@ use Rattle.model.specs.Demand.{demandOf}
 use Rattle.model.specs.Share.{Share, passes, leastOf, bestOf}
 use Rattle.model.specs.Reply.{Reply, gives, refuses}
 use Rattle.model.specs.Rows.{within, row, inRange, miscounted, outOfRange, falls, tasksRow, tasksRows, supplyReply, demandReply, checkReply, leastReply, bestReply}
-use Rattle.model.specs.Meaning.{Pass, IsLeast, IsBest}
 use Rattle.model.specs.Asked.{Work, Asked, supply, demand, check, least, best, replyTo}
 use Rattle.model.specs.Table.{Outside, OutOfRange, Miscounted, TaskOut, PeriodFalls, OfTasks, ShareOut, LengthOut, NonePasses, Row, row-30, row-31, row-32, row-33, row-34, row-35, rows, First, NoRow, Result, Table}
 use Rattle.model.proofs.Tests.{clash, below-or-from}
@@ -70,6 +69,19 @@ at-one f n A h = (there, nowhere)
         let z : first f n ≡ 0 = omega (arith, ltb-false 0 (first f n) e) in
         h (x .0) (x .1) .1 (first-smallest f n .none z (x .0) (x .1) (x .2)) (x .3)
 
+-- the rows of a task list, one by one
+one-by-one : (ps es : List ℕ) (rest : Reply) → tasksRows ps es rest
+    ≡ row (miscounted ps es) 30 0 (row (ltb 0 (first (outOfRange ps es) (length ps))) 31 0 (row (ltb 0 (first (falls ps) (length ps))) 32 0 rest))
+unfolding tasksRow tasksRows
+one-by-one ps es rest = go (miscounted ps es) refl (ltb 0 (first (outOfRange ps es) (length ps))) refl (ltb 0 (first (falls ps) (length ps))) refl
+  where
+    go : (a : Bool) → miscounted ps es ≡ a → (b : Bool) → ltb 0 (first (outOfRange ps es) (length ps)) ≡ b
+        → (c : Bool) → ltb 0 (first (falls ps) (length ps)) ≡ c → tasksRows ps es rest ≡ row a 30 0 (row b 31 0 (row c 32 0 rest))
+    go true ea b eb c ec = rw ea
+    go false ea true eb c ec = rw (ea, eb)
+    go false ea false eb true ec = rw (ea, eb, ec)
+    go false ea false eb false ec = rw (ea, eb, ec)
+
 module _ (w : Work) where
   abbrev ps : List ℕ
   ps = w .periods
@@ -115,19 +127,6 @@ module _ (w : Work) where
 
       there : (k : ℕ) × (1 ≤ k) × (k ≤ length ps) × ((1 < k) × (getD ps (k - 1) 0 < getD ps (k - 2) 0)) → PeriodFalls w
       there x = (x .0, x .3 .0, x .2, x .3 .1)
-
--- the rows of a task list, one by one
-one-by-one : (ps es : List ℕ) (rest : Reply) → tasksRows ps es rest
-    ≡ row (miscounted ps es) 30 0 (row (ltb 0 (first (outOfRange ps es) (length ps))) 31 0 (row (ltb 0 (first (falls ps) (length ps))) 32 0 rest))
-unfolding tasksRow tasksRows
-one-by-one ps es rest = go (miscounted ps es) (ltb 0 (first (outOfRange ps es) (length ps))) (ltb 0 (first (falls ps) (length ps)))
-  where
-    go : (a b c : Bool) → row (ltb 0 (cond a 30 (cond b 31 (cond c 32 0)))) (cond a 30 (cond b 31 (cond c 32 0))) 0 rest
-        ≡ row a 30 0 (row b 31 0 (row c 32 0 rest))
-    go true b c = refl
-    go false true c = refl
-    go false false true = refl
-    go false false false = refl
 
 -- a test with what it tells
 abbrev Test : Type 0 → Type 0
@@ -324,7 +323,6 @@ module _ (asked : Asked) where
   one-first : (n m : ℕ) → First asked n → First asked m → n ≡ m
   one-first n m f g = go (below-or-from (f .place) (g .place)) (below-or-from (g .place) (f .place))
     where
-      -- the first of one list of rows does not stand above the first of the other
       not-above : (a b : ℕ) (x : First asked a) (y : First asked b) → x .place < y .place → ⊥
       not-above a b x y l = y .none-above (x .place) l (subst (λ (k : ℕ). Row asked k) (sym (x .stands)) (x .applies))
 

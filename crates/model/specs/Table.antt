@@ -12,6 +12,7 @@ use Rattle.model.specs.Reply.{refuses, gives}
 use Rattle.model.specs.Meaning.{Pass, IsLeast, NoBudget, IsBest, NoShare}
 use Rattle.model.specs.Asked.{Work, Asked, supply, demand, check, least, best, replyTo}
 
+-- n is not low to high
 abbrev pub Outside : ℕ → ℕ → ℕ → Type 0
 Outside low high n = (n < low) ⊎ (high < n)
 
