@@ -8,11 +8,11 @@ use native.Mathlib.Omega.{arith}
 use lib.Dec.{eqb}
 use lib.ListN.{length, length-append}
 use Rattle.queries.specs.Reading.{startLine, fedByte, fedBytes}
-use Rattle.queries.specs.Meaning.{lineMeans}
+use Rattle.queries.specs.Meaning.{lineMeans, linesMean}
 use Rattle.queries.specs.Answer.{answerOf}
-use Rattle.queries.specs.Serve.{answers, linesMean}
 use Rattle.queries.proofs.Steps.{fed-append}
 use Rattle.queries.proofs.Words.{Bytes}
+use Rattle.queries.proofs.Rest.{answers}
 use Rattle.queries.proofs.Meaning.{answer-means}
 
 bytes-more : (t : List ℕ) (b : ℕ) → Bytes t → b < 256 → Bytes (t ++ (b ∷ []))

@@ -1,7 +1,6 @@
 -- Any two replies that the promise of a public function of `queries` allows are equal, the bytes written included (`OneReply` of crate
 -- promise). Assumes nothing.
 use mathlib.Core.Path.{_≡_, sym, _∙_}
-use native.Mathlib.Omega.{arith}
 use denote.Ref.{now}
 use Rattle.promise.specs.OneReply.{OneReply, OneReplyAndBytes}
 use Rattle.queries.specs.declared.part.Served.{Served}
@@ -33,4 +32,4 @@ pub whole-one : OneReplyAndBytes 2 whole.ps whole.r whole-promise.Post (λ κs x
 whole-one κs args a b x y p q = (p .count ∙ sym (q .count), p .whole ∙ sym (q .whole))
 
 pub serve-one : OneReplyAndBytes 2 serve.ps serve.r serve-promise.Post (λ κs x. now (x .1 .1 .0))
-serve-one κs args a b x y p q = (same-served a b (p .line-is ∙ sym (q .line-is)) (omega (arith, p .used-is, q .used-is)) (p .count-is ∙ sym (q .count-is)), p .whole ∙ sym (q .whole))
+serve-one κs args a b x y p q = (same-served a b (p .line-is ∙ sym (q .line-is)) (p .used-is ∙ sym (q .used-is)) (p .count-is ∙ sym (q .count-is)), p .whole ∙ sym (q .whole))

@@ -1,9 +1,9 @@
--- What serving a part leaves: the bytes behind those that were used, and fewer than there were where an answer has room.
+-- What serving a part leaves: with the rest of the input it is answered as the whole is, and a byte is used where an answer has room.
 -- Assumes nothing.
-use Prim.Native.Nat.{ℕ, suc, _+_, _-_, _≤_, _<_}
-use mathlib.Core.Path.{_≡_, ap, sym, _∙_}
+use Prim.Native.Nat.{ℕ, suc, _+_, _≤_}
+use mathlib.Core.Path.{_≡_, refl, ap, sym, _∙_}
 use mathlib.Core.Bool.{Bool, true, false, cond}
-use mathlib.Core.List.{List, [], _∷_, _++_}
+use mathlib.Core.List.{List, [], _∷_, _++_, append-assoc}
 use native.Mathlib.Omega.{arith}
 use lib.Dec.{ltb, eqb}
 use lib.ListN.{length, drop}
@@ -12,57 +12,54 @@ use Rattle.queries.specs.declared.line.Line.{Line}
 use Rattle.queries.specs.declared.part.Served.{Served}
 use Rattle.queries.specs.Reading.{startLine, fedByte}
 use Rattle.queries.specs.Answer.{answerOf}
-use Rattle.queries.specs.Serve.{Part, servedPart, ServedAs}
+use Rattle.queries.specs.Serve.{Part, oneMoreUsed, servedPart, ServedAs}
 
--- rest is the end of the input
-abbrev Ends : List ℕ → List ℕ → Type 0
-Ends input rest = (length rest ≤ length input) × (rest ≡ drop (length input - length rest) input)
+-- the answers to all of an input: each newline ends a line, and so does the end
+unfoldable pub answers : Line → List ℕ → List ℕ
+answers l [] = answerOf l
+answers l (b ∷ bs) = cond (eqb b 10) (answerOf l ++ answers startLine bs) (answers (fedByte l b) bs)
 
-ends-all : (input : List ℕ) → Ends input input
-ends-all input = let e : length input - length input ≡ 0 = omega arith in (omega arith, ap (λ (k : ℕ). drop k input) (sym e))
+answers-newline : (l : Line) (b : ℕ) (bs : List ℕ) → eqb b 10 ≡ true → answers l (b ∷ bs) ≡ answerOf l ++ answers startLine bs
+unfolding answers
+answers-newline l b bs e = rw e
 
-ends-more : (b : ℕ) (bs rest : List ℕ) → Ends bs rest → Ends (b ∷ bs) rest
-ends-more b bs rest h =
-    let e : suc (length bs - length rest) ≡ length (b ∷ bs) - length rest = omega (arith, h .0) in
-    (omega (arith, h .0), h .1 ∙ ap (λ (k : ℕ). drop k (b ∷ bs)) e)
+answers-byte : (l : Line) (b : ℕ) (bs : List ℕ) → eqb b 10 ≡ false → answers l (b ∷ bs) ≡ answers (fedByte l b) bs
+unfolding answers
+answers-byte l b bs e = rw e
 
-part-ends : (room : ℕ) (l : Line) (text input : List ℕ) → Ends input (servedPart room l text input .rest)
+-- what a part answers, and then all that is left of an input, is what the input answers
+pub part-keeps : (room : ℕ) (l : Line) (text input behind : List ℕ)
+    → servedPart room l text input .text ++ answers (servedPart room l text input .line) (drop (servedPart room l text input .used) input ++ behind)
+    ≡ text ++ answers l (input ++ behind)
 unfolding servedPart
-part-ends room l text [] = ends-all []
-part-ends room l text (b ∷ bs) =
-    go (eqb b 10) (ltb room (length text + 64))
-    (ends-more b bs (servedPart room startLine (text ++ answerOf l) bs .rest) (part-ends room startLine (text ++ answerOf l) bs))
-    (ends-more b bs (servedPart room (fedByte l b) text bs .rest) (part-ends room (fedByte l b) text bs))
+part-keeps room l text [] behind = refl
+part-keeps room l text (b ∷ bs) behind =
+    go (eqb b 10) (ltb room (length text + 64)) refl (part-keeps room startLine (text ++ answerOf l) bs behind) (part-keeps room (fedByte l b) text bs behind)
   where
     next : Bool → Bool → Part
     next s t =
-        cond s (cond t (record { line = l; text = text; rest = b ∷ bs }) (servedPart room startLine (text ++ answerOf l) bs)) (servedPart room (fedByte l b) text bs)
+        cond s (cond t (record { line = l; text = text; used = 0 }) (oneMoreUsed (servedPart room startLine (text ++ answerOf l) bs))) (oneMoreUsed (servedPart room (fedByte l b) text bs))
 
-    go : (s t : Bool) → Ends (b ∷ bs) (servedPart room startLine (text ++ answerOf l) bs .rest) → Ends (b ∷ bs) (servedPart room (fedByte l b) text bs .rest)
-        → Ends (b ∷ bs) (next s t .rest)
-    go true true p q = ends-all (b ∷ bs)
-    go true false p q = p
-    go false t p q = q
+    go : (s t : Bool) → eqb b 10 ≡ s
+        → servedPart room startLine (text ++ answerOf l) bs .text ++ answers (servedPart room startLine (text ++ answerOf l) bs .line) (drop (servedPart room startLine (text ++ answerOf l) bs .used) bs ++ behind)
+        ≡ (text ++ answerOf l) ++ answers startLine (bs ++ behind)
+        → servedPart room (fedByte l b) text bs .text ++ answers (servedPart room (fedByte l b) text bs .line) (drop (servedPart room (fedByte l b) text bs .used) bs ++ behind)
+        ≡ text ++ answers (fedByte l b) (bs ++ behind)
+        → next s t .text ++ answers (next s t .line) (drop (next s t .used) (b ∷ bs) ++ behind) ≡ text ++ answers l ((b ∷ bs) ++ behind)
+    go true true e p q = refl
+    go true false e p q = p ∙ append-assoc text (answerOf l) (answers startLine (bs ++ behind)) ∙ ap (λ (x : List ℕ). text ++ x) (sym (answers-newline l b (bs ++ behind) e))
+    go false t e p q = q ∙ ap (λ (x : List ℕ). text ++ x) (sym (answers-byte l b (bs ++ behind) e))
 
 -- where there is room for an answer, the first byte is used
-part-less : (room : ℕ) (l : Line) (input : List ℕ) → 64 ≤ room → 1 ≤ length input → length (servedPart room l [] input .rest) < length input
+pub first-used : (room : ℕ) (l : Line) (input : List ℕ) → 64 ≤ room → 1 ≤ length input → 1 ≤ servedPart room l [] input .used
 unfolding servedPart
-part-less room l [] some-room some-left = omega arith
-part-less room l (b ∷ bs) some-room some-left =
-    rw (le-ltb room 64 some-room) (go (eqb b 10) (part-ends room startLine (answerOf l) bs .0) (part-ends room (fedByte l b) [] bs .0))
+first-used room l [] some-room some-left = omega arith
+first-used room l (b ∷ bs) some-room some-left = rw (le-ltb room 64 some-room) (go (eqb b 10))
   where
-    go : (s : Bool) → length (servedPart room startLine (answerOf l) bs .rest) ≤ length bs → length (servedPart room (fedByte l b) [] bs .rest) ≤ length bs
-        → length (cond s (servedPart room startLine (answerOf l) bs) (servedPart room (fedByte l b) [] bs) .rest) < length (b ∷ bs)
-    go true p q = omega (arith, p)
-    go false p q = omega (arith, q)
+    go : (s : Bool) → 1 ≤ cond s (oneMoreUsed (servedPart room startLine (answerOf l) bs)) (oneMoreUsed (servedPart room (fedByte l b) [] bs)) .used
+    go true = omega arith
+    go false = omega arith
 
-module _ (l : Line) (input before after : List ℕ) (r : Served) (s : ServedAs (servedPart (length before) l [] input) input before after r) where
-  -- the bytes that were not read are those behind the ones that were
-  pub rest-is : servedPart (length before) l [] input .rest ≡ drop (r .used) input
-  rest-is =
-      let p = part-ends (length before) l [] input in
-      let e : length input - length (servedPart (length before) l [] input .rest) ≡ r .used = omega (arith, s .used-is) in
-      p .1 ∙ ap (λ (k : ℕ). drop k input) e
-
-  pub some-used : 64 ≤ length before → 1 ≤ length input → 1 ≤ r .used
-  some-used some-room some-left = omega (arith, s .used-is, part-less (length before) l input some-room some-left)
+pub some-used : (l : Line) (input before after : List ℕ) (r : Served) → ServedAs (servedPart (length before) l [] input) input before after r
+    → 64 ≤ length before → 1 ≤ length input → 1 ≤ r .used
+some-used l input before after r s some-room some-left = omega (arith, s .used-is, first-used (length before) l input some-room some-left)

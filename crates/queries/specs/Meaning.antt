@@ -1,8 +1,8 @@
--- What a line means, read as a whole: from its bytes, without the newline, to the bytes of the answer.
--- proofs/Meaning.antt shows that a line that is fed in parts is answered so. Assumes nothing.
+-- What a line means, read as a whole: from its bytes, without the newline, to the bytes of the answer; and so what an input means.
+-- proofs/Inputs.antt shows that an input is answered so in whatever parts it comes. Assumes nothing.
 use Prim.Native.Nat.{ℕ, _-_, max}
 use mathlib.Core.Bool.{Bool, true, false, cond, not, _&&_, _||_}
-use mathlib.Core.List.{List, [], _∷_, map}
+use mathlib.Core.List.{List, [], _∷_, _++_, map}
 use lib.Dec.{leb, ltb, eqb}
 use lib.ListN.{length, getD, drop}
 use Rattle.text.specs.Text.{number}
@@ -120,3 +120,8 @@ bytesMean (b ∷ bs) = fieldsMean (spokenOf (untilSpace (b ∷ bs))) (fieldsOf (
 
 unfoldable pub lineMeans : List ℕ → List ℕ
 lineMeans line = bytesMean (trimmed line)
+
+-- what an input means: each newline ends a line, and so does the end; t are the bytes of the line so far
+unfoldable pub linesMean : List ℕ → List ℕ → List ℕ
+linesMean t [] = lineMeans t
+linesMean t (b ∷ bs) = cond (eqb b 10) (lineMeans t ++ linesMean [] bs) (linesMean (t ++ (b ∷ [])) bs)
