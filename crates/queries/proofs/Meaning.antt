@@ -3,7 +3,7 @@
 use Prim.Native.Nat.{ℕ, zero, suc, _+_, _-_, _^_, _≤_, _<_}
 use mathlib.Core.Path.{_≡_, refl, ap, sym, _∙_}
 use mathlib.Core.Bool.{Bool, true, false, cond, not, _&&_}
-use mathlib.Core.List.{List, [], _∷_, _++_, map}
+use mathlib.Core.List.{List, [], _∷_, map, foldl, flatten}
 use mathlib.Core.Logic.{inl}
 use native.Mathlib.Omega.{arith}
 use lib.Dec.{ltb, eqb}
@@ -145,9 +145,15 @@ answer-means line b few =
     read-means (heldAfter false line) (trimmed line) (fedBytes startLine line) (bytes-trimmed line b)
     (omega (arith, fields-few (trimmed line), trimmed-few line)) (reads-line line few)
 
--- in whatever parts it comes
-pub parts-mean : (a b : List ℕ) → Bytes (a ++ b) → length (a ++ b) + 2 < 2 ^ 64 - 1 → answerOf (fedBytes (fedBytes startLine a) b) ≡ lineMeans (a ++ b)
-parts-mean a b h few = ap answerOf (sym (fed-append startLine a b)) ∙ answer-means (a ++ b) h few
+fed-flatten : (parts : List (List ℕ)) (l : Line) → foldl fedBytes l parts ≡ fedBytes l (flatten parts)
+unfolding fedBytes flatten
+fed-flatten [] l = refl
+fed-flatten (a ∷ parts) l = fed-flatten parts (fedBytes l a) ∙ sym (fed-append l a (flatten parts))
+
+-- in whatever parts a line is fed; proofs/Inputs.antt has the same of an input
+pub fed-parts-mean : (parts : List (List ℕ)) → Bytes (flatten parts) → length (flatten parts) + 2 < 2 ^ 64 - 1
+    → answerOf (foldl fedBytes startLine parts) ≡ lineMeans (flatten parts)
+fed-parts-mean parts h few = ap answerOf (fed-flatten parts startLine) ∙ answer-means (flatten parts) h few
 
 -- a whole line at once
 pub whole-means : (line out out′ : List ℕ) (n : ℕ) (s l : Line) → s ≡ startLine → l ≡ fedBytes s line → Bytes line → length line < 2 ^ 63

@@ -1,12 +1,12 @@
 -- A part of the input, line after line: one turn of the loop that serves it. Assumes nothing.
 use Prim.Native.Nat.{ℕ, suc, _+_, _-_, _≤_, _<_}
 use mathlib.Core.Path.{_≡_, refl, ap, sym, _∙_}
-use mathlib.Core.Bool.{Bool, true, false, cond}
+use mathlib.Core.Bool.{Bool, true, false}
 use mathlib.Core.List.{List, [], _∷_, _++_}
 use native.Mathlib.Omega.{arith}
 use native.Mathlib.Nat.{zero-add, add-assoc}
 use native.Mathlib.Numerals.{add-one}
-use lib.Dec.{ltb, eqb}
+use lib.Dec.{eqb}
 use lib.ListN.{length, getD, take, drop, set, length-append, length-drop, take-append-drop}
 use lib.Seq.{paste, paste-suc, length-paste, take-paste, drop-paste, drop-cons, drop-drop, length-take-le, getD-take, getD-drop, drop-length, take-append-seam}
 use borrow.Author.Tests.{eqb-true, eqb-false, ne-eqb, lt-ltb, le-ltb}
@@ -14,7 +14,7 @@ use Rattle.queries.specs.declared.line.Line.{Line}
 use Rattle.queries.specs.Text.{Written}
 use Rattle.queries.specs.Reading.{startLine, fedByte, fedBytes}
 use Rattle.queries.specs.Answer.{answerOf}
-use Rattle.queries.specs.Serve.{Part, oneMoreUsed, servedPart, ServedAs, LineEnd}
+use Rattle.queries.specs.Serve.{Run, oneMoreUsed, servedPart, ServedAs, LineEnd}
 
 pub none-more : (input : List ℕ) (from k : ℕ) → ((i : ℕ) → from ≤ i → i < k → getD input i 0 ≡ 10 → ⊥) → (getD input k 0 ≡ 10 → ⊥)
     → (i : ℕ) → from ≤ i → i < k + 1 → getD input i 0 ≡ 10 → ⊥
@@ -29,23 +29,23 @@ pub paste-again : (d d₁ s : List ℕ) (at j : ℕ) → at + j < length d → j
 paste-again d d₁ s at j h k e = rw (add-one, e) (paste-suc d at s j 0 h k)
 
 -- with n bytes before it
-abbrev moreUsed : ℕ → Part → Part
-moreUsed n p = record { line = p .line; text = p .text; used = n + p .used }
+abbrev moreUsed : ℕ → Run → Run
+moreUsed n r = record { line = r .line; text = r .text; used = n + r .used }
 
-used-same : (n k : ℕ) (p : Part) → n ≡ k → moreUsed n p ≡ moreUsed k p
-used-same n k p e = rw e
+used-same : (n k : ℕ) (r : Run) → n ≡ k → moreUsed n r ≡ moreUsed k r
+used-same n k r e = rw e
 
-used-none : (p : Part) → p ≡ moreUsed 0 p
-used-none p = rw zero-add
+used-none : (r : Run) → r ≡ moreUsed 0 r
+used-none r = rw zero-add
 
-used-one : (n : ℕ) (p : Part) → oneMoreUsed (moreUsed n p) ≡ moreUsed (suc n) p
-used-one n p = let e : suc (n + p .used) ≡ suc n + p .used = omega arith in rw e
+used-one : (n : ℕ) (r : Run) → oneMoreUsed (moreUsed n r) ≡ moreUsed (suc n) r
+used-one n r = let e : suc (n + r .used) ≡ suc n + r .used = omega arith in rw e
 
-then-one : (n : ℕ) (p : Part) → moreUsed n (oneMoreUsed p) ≡ moreUsed (n + 1) p
-then-one n p = let e : n + suc (p .used) ≡ n + 1 + p .used = omega arith in rw e
+then-one : (n : ℕ) (r : Run) → moreUsed n (oneMoreUsed r) ≡ moreUsed (n + 1) r
+then-one n r = let e : n + suc (r .used) ≡ n + 1 + r .used = omega arith in rw e
 
-used-twice : (n k : ℕ) (p : Part) → moreUsed n (moreUsed k p) ≡ moreUsed (n + k) p
-used-twice n k p = rw add-assoc
+used-twice : (n k : ℕ) (r : Run) → moreUsed n (moreUsed k r) ≡ moreUsed (n + k) r
+used-twice n k r = rw add-assoc
 
 -- bytes without a newline are fed to the line
 pub served-fed : (room : ℕ) (l : Line) (text xs rest : List ℕ) → ((i : ℕ) → i < length xs → getD xs i 0 ≡ 10 → ⊥)
@@ -130,7 +130,7 @@ module _ (input before : List ℕ) (start : Line) (out : List ℕ) (line : Line)
   standing : length (take count out) ≡ count
   standing = length-take-le count out (omega (arith, g .fits, g .size))
 
-  abbrev left : Line → Part
+  abbrev left : Line → Run
   left x = servedPart (length before) x (take count out) (drop end input)
 
   further : servedPart (length before) start [] input ≡ moreUsed end (left fed)

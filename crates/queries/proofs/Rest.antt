@@ -1,6 +1,6 @@
 -- What serving a part leaves: with the rest of the input it is answered as the whole is, and a byte is used where an answer has room.
 -- Assumes nothing.
-use Prim.Native.Nat.{ℕ, suc, _+_, _≤_}
+use Prim.Native.Nat.{ℕ, _+_, _≤_}
 use mathlib.Core.Path.{_≡_, refl, ap, sym, _∙_}
 use mathlib.Core.Bool.{Bool, true, false, cond}
 use mathlib.Core.List.{List, [], _∷_, _++_, append-assoc}
@@ -12,7 +12,7 @@ use Rattle.queries.specs.declared.line.Line.{Line}
 use Rattle.queries.specs.declared.part.Served.{Served}
 use Rattle.queries.specs.Reading.{startLine, fedByte}
 use Rattle.queries.specs.Answer.{answerOf}
-use Rattle.queries.specs.Serve.{Part, oneMoreUsed, servedPart, ServedAs}
+use Rattle.queries.specs.Serve.{Run, oneMoreUsed, servedPart, ServedAs}
 
 -- the answers to all of an input: each newline ends a line, and so does the end
 unfoldable pub answers : Line → List ℕ → List ℕ
@@ -36,7 +36,7 @@ part-keeps room l text [] behind = refl
 part-keeps room l text (b ∷ bs) behind =
     go (eqb b 10) (ltb room (length text + 64)) refl (part-keeps room startLine (text ++ answerOf l) bs behind) (part-keeps room (fedByte l b) text bs behind)
   where
-    next : Bool → Bool → Part
+    next : Bool → Bool → Run
     next s t =
         cond s (cond t (record { line = l; text = text; used = 0 }) (oneMoreUsed (servedPart room startLine (text ++ answerOf l) bs))) (oneMoreUsed (servedPart room (fedByte l b) text bs))
 

@@ -5,3 +5,4 @@ pub mod Meaning
 pub mod Reading
 pub mod Answer
 pub mod Serve
+pub mod Parts

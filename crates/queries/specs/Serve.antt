@@ -12,17 +12,17 @@ use Rattle.queries.specs.Reading.{startLine, fedByte}
 use Rattle.queries.specs.Answer.{answerOf}
 
 -- the line that has begun, the answers, and how many bytes were used
-pub record Part : Type 0 where
+pub record Run : Type 0 where
   pub line : Line
   pub text : List ℕ
   pub used : ℕ
 
 -- with the byte before it
-abbrev pub oneMoreUsed : Part → Part
-oneMoreUsed p = record { line = p .line; text = p .text; used = suc (p .used) }
+abbrev pub oneMoreUsed : Run → Run
+oneMoreUsed r = record { line = r .line; text = r .text; used = suc (r .used) }
 
 -- byte after byte, with the answers so far: a newline ends the line, unless the room has fewer than 64 bytes left
-unfoldable pub servedPart : ℕ → Line → List ℕ → List ℕ → Part
+unfoldable pub servedPart : ℕ → Line → List ℕ → List ℕ → Run
 servedPart room l text [] = record { line = l; text = text; used = 0 }
 servedPart room l text (b ∷ bs) =
     cond (eqb b 10)
@@ -32,7 +32,7 @@ servedPart room l text (b ∷ bs) =
     (oneMoreUsed (servedPart room (fedByte l b) text bs))
 
 -- r and the bytes behind it are those of the part
-pub record ServedAs (p : Part) (input before after : List ℕ) (r : Served) : Type 0 where
+pub record ServedAs (p : Run) (input before after : List ℕ) (r : Served) : Type 0 where
   pub line-is : r .line ≡ p .line
   pub used-is : r .used ≡ p .used
   pub count-is : r .count ≡ length (p .text)
