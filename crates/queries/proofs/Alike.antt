@@ -2,12 +2,13 @@
 -- Assumes nothing.
 use Prim.Native.Nat.{ℕ, _+_, _-_, _*_, _≤_, _<_}
 use mathlib.Core.Path.{_≡_, refl}
-use mathlib.Core.Bool.{Bool, true, false, cond, not, _&&_, _||_}
+use mathlib.Core.Bool.{Bool, true, false, cond, not, _&&_, _||_, or-true}
 use mathlib.Core.List.{List, [], _∷_}
 use mathlib.Core.Logic.{_⊎_, inl, inr}
 use native.Mathlib.Omega.{arith}
 use lib.Dec.{leb, ltb}
 use borrow.Author.Tests.{lt-ltb, lt-leb, ltb-false, leb-true}
+use Rattle.model.proofs.Tests.{and-right, and-both}
 use Rattle.model.specs.Reply.{Reply}
 use Rattle.model.specs.Rows.{within, inRange, row, supplyReply}
 use Rattle.queries.specs.Reading.{figured}
@@ -41,19 +42,10 @@ alike-number (b ∷ f) n m e a = go (isDigit b) refl e (alike-number f (digitSte
 
 -- the rows on P and B, and on t, see no difference
 in-range : (a n : ℕ) → n ≤ 3000 → 3000 < a → within a n ≡ false
-in-range a n h k = go (leb 1 a)
-  where
-    go : (t : Bool) → (t && leb a n) ≡ false
-    go true = lt-leb a n (omega arith)
-    go false = refl
+in-range a n h k = and-right (leb 1 a) (leb a n) (lt-leb a n (omega arith))
 
 pub within-limit : (a n : ℕ) → within a n ≡ true → a ≤ n
-within-limit a n e = go (leb 1 a) (leb a n) refl e
-  where
-    go : (s t : Bool) → leb a n ≡ t → (s && t) ≡ true → a ≤ n
-    go true true p q = leb-true a n p
-    go true false p q = let z : _≡_ {A = ℕ} 0 1 = cc in absurd (omega arith)
-    go false t p q = let z : _≡_ {A = ℕ} 0 1 = cc in absurd (omega arith)
+within-limit a n e = leb-true a n (and-both (leb 1 a) (leb a n) e .1)
 
 abbrev pub bad-share : ℕ → ℕ → Bool
 bad-share P B = not (inRange P B)
@@ -81,10 +73,6 @@ period-alike P P′ (inr p) X X′ r = rw (in-range P 2000 (omega arith) (p .0),
 
 abbrev bad-length : ℕ → ℕ → ℕ → Bool
 bad-length n i t = ltb 2000 t || not (within i n)
-
-or-true : (t : Bool) → (t || true) ≡ true
-or-true true = refl
-or-true false = refl
 
 pub length-alike : (n i i′ t t′ : ℕ) → n ≤ 3000 → Alike 3000 i i′ → Alike 3000 t t′ → (X X′ : Reply) → ((i ≡ i′) → (t ≡ t′) → X ≡ X′)
     → row (bad-length n i t) 35 0 X ≡ row (bad-length n i′ t′) 35 0 X′

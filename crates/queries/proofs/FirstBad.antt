@@ -2,7 +2,7 @@
 -- bad field holds. Assumes nothing.
 use Prim.Native.Nat.{ℕ, zero, suc, _+_, _-_, _^_, _≤_, _<_, max}
 use mathlib.Core.Path.{_≡_, refl, sym}
-use mathlib.Core.Bool.{Bool, true, false, cond, not, _||_}
+use mathlib.Core.Bool.{Bool, true, false, cond, not, or-true}
 use mathlib.Core.List.{List, [], _∷_}
 use native.Mathlib.Omega.{arith}
 use lib.Dec.{ltb, eqb}
@@ -112,15 +112,6 @@ found k (f ∷ fs) n = go (isNumber f) refl n (found (suc k) fs)
         earlier zero h r = p
         earlier (suc i) h r = r i (omega arith)
 
-or-true : (s t : Bool) → (s || (t || true)) ≡ true
-or-true true t = refl
-or-true false true = refl
-or-true false false = refl
-
-or-many : (s t : Bool) → (s || (true || t)) ≡ true
-or-many true t = refl
-or-many false t = refl
-
 heads-most : (w : Word) → heads w ≤ most w
 heads-most Supply = omega arith
 heads-most Demand = omega arith
@@ -151,8 +142,8 @@ module _ (w : Word) (fs : List (List ℕ)) (few : length fs ≤ 2 ^ 64 - 1) wher
   field-first =
       first-bad-is (badAt w fs) none-there (heads w) (most w) (length fs) (firstNoNumber 1 fs) (heads-most w)
       (λ l. rw (lt-ltb (length fs) (length fs + 1) (omega arith)))
-      (λ l. rw (many-fields w (length fs) few l) (or-many (ltb (length fs) (most w + 1)) (none-there (most w + 1))))
-      (λ j e. rw e (or-true (ltb (length fs) j) (tooMany w j)))
+      (λ l. rw (many-fields w (length fs) few l) (or-true (ltb (length fs) (most w + 1))))
+      (λ j e. rw (e, or-true (tooMany w j)) (or-true (ltb (length fs) j)))
       (λ j a b c e. rw (le-ltb (length fs) j b, few-fields w j c, e))
       (λ e j a b. rw (numbers-all 0 fs e (j - 1) (omega arith)))
       (λ n. let x = found 0 fs n in

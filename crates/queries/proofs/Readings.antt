@@ -1,7 +1,7 @@
 -- What was read of a line, told from its word and its fields, with one byte more. Assumes nothing.
 use Prim.Native.Nat.{ℕ, suc, _+_, _-_, _^_, _<_}
 use mathlib.Core.Path.{_≡_, refl, ap, sym, _∙_}
-use mathlib.Core.Bool.{Bool, true, false, cond, _&&_}
+use mathlib.Core.Bool.{Bool, true, false, cond, _&&_, and-true}
 use mathlib.Core.List.{List, [], _∷_, _++_}
 use native.Mathlib.Omega.{arith}
 use native.Mathlib.Nat.{zero-add}
@@ -148,10 +148,6 @@ module _ (b : ℕ) where
 
   bad-digit : isDigit b ≡ true → (j : ℕ) (f : List ℕ) (fs : List (List ℕ)) → badSoFar j (onLast b (f ∷ fs)) ≡ badSoFar j (f ∷ fs)
   bad-digit e j f [] = ap (λ (t : Bool). cond t 0 (suc j)) (digits-more f b true e ∙ and-true (allDigits f))
-    where
-      and-true : (t : Bool) → (t && true) ≡ t
-      and-true true = refl
-      and-true false = refl
   bad-digit e j f (g ∷ fs) =
       bad-cons j f (onLast b (g ∷ fs)) (last-some b g fs) ∙ ap (λ (n : ℕ). cond (isNumber f) n (suc j)) (bad-digit e (suc j) g fs)
 

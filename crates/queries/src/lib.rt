@@ -11,4 +11,3 @@ pub use line::Line;
 pub use line::answer_whole;
 pub use part::Served;
 pub use part::serve;
-pub use reading::Reading;

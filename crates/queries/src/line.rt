@@ -8,8 +8,9 @@ ghost use Rattle.queries.specs.Text.{Written};
 ghost use Rattle.queries.specs.Answer.{answerOf};
 ghost use Rattle.queries.specs.Meaning.{lineMeans};
 
-// The numbers of the first 37 fields are kept, that of field k at k / 2, the odd fields' and the even
-// ones' apart, so that a task list's periods stand in one of the two arrays and its costs in the other.
+// The numbers of the first 37 fields are kept; two fields and 17 tasks, too many already, are 36. That of
+// field k stands at k / 2, the odd fields' and the even ones' apart, so that a task list's periods stand
+// in one of the two arrays and its costs in the other.
 pub struct Line {
     pub(crate) odd: [u32; 19],
     pub(crate) even: [u32; 19],
