@@ -44,7 +44,7 @@ lines-answer (b ∷ bs) t ht hb few =
     go true p q r = rw p (ap (λ (x : List ℕ). lineMeans t ++ x) q)
     go false p q r = r
 
-pub input-means : (input : List ℕ) → Bytes input → length input + 2 < 2 ^ 64 - 1 → answers startLine input ≡ linesMean [] input
+input-means : (input : List ℕ) → Bytes input → length input + 2 < 2 ^ 64 - 1 → answers startLine input ≡ linesMean [] input
 unfolding fedBytes
 input-means input h few = lines-answer input [] tt h (omega arith)
 

@@ -6,7 +6,7 @@ use Rattle.queries.specs.declared.line.Line.{Line}
 use Rattle.queries.specs.Answer.{answerOf}
 use Rattle.queries.specs.Serve.{Run, servedPart}
 
--- bytes that came together, few, many or none, and the room for answers that there was: enough for one
+-- bytes that came together, few, many or none, and the room for answers in each go: enough for one
 pub record Part : Type 0 where
   pub bytes : List ℕ
   pub room : ℕ
