@@ -8,14 +8,17 @@ use mathlib.Core.Bool.{true}
 use mathlib.Core.List.{List, [], _∷_, _++_}
 use lib.ListN.{length, getD, take, drop, length-drop}
 use lib.Seq.{take-suc, take-add, drop-drop, getD-drop}
+use lib.Dec.{leb}
+use borrow.Author.Tests.{le-leb}
 use Rattle.records.specs.Record.{description}
+use Rattle.rules.specs.Limits.{largestTunnel}
 use Rattle.rules.specs.Change.{Change, admit, wake, block, remove, tick}
 use Rattle.records.specs.declared.answers.Event.{Event}
 use Rattle.records.specs.declared.answers.Read.the-variants.{Event as Got}
 use Rattle.records.specs.Bytes.{AreBytes, number, bytesOf}
-use Rattle.records.specs.Record.{known, payload, tag, lengthSaid, time, asked, call}
+use Rattle.records.specs.Record.{known, payload, tag, lengthSaid, time, identifier, asked, call}
 use Rattle.records.specs.Answer.{eventSaid, readSpec}
-use Rattle.records.specs.Encode.{callOf, tagOf, fieldsOf, head, recordOf, sizeOf, Held, InRange}
+use Rattle.records.specs.Encode.{callOf, tagOf, fieldsOf, head, recordOf, sizeOf, InRange}
 use Rattle.records.proofs.Tags.{Tag, is-admit, is-wake, is-block, is-remove, is-tick, tag-cases, payload-bounds, payload-admit, payload-naming, payload-tick}
 use Rattle.records.proofs.Exactly.{Whole, read-whole, asked-tag, read-size}
 
@@ -99,12 +102,16 @@ module _ (s : List ℕ) (h : AreBytes s) where
       ∙ head-again (omega (arith, payload-bounds (tag s))) in
       cat front (fields-again (tag s) m (tag-cases (tag s) k) p sum) ∙ part s 0 11 m ∙ ap (λ (n : ℕ). take n s) sum
 
-  held-again : (k : ℕ) → Tag k → Held (asked k s)
-  held-again k (is-admit e) = rw e (number-below 3 11, number-below 4 14, number-below 4 18, byte-at s 22 h)
-  held-again k (is-wake e) = rw e (number-below 3 11)
-  held-again k (is-block e) = rw e (number-below 3 11)
-  held-again k (is-remove e) = rw e (number-below 3 11)
-  held-again k (is-tick e) = rw e tt
+  identifier-again : leb (identifier s) largestTunnel ≡ true
+  identifier-again = le-leb (identifier s) largestTunnel (omega (arith, number-below 3 11))
+
+  in-range-again : (k : ℕ) → Tag k → InRange (record { now = time s; asked = asked k s })
+  in-range-again k (is-admit e) =
+      rw e ((number-below 8 3, (number-below 4 14, number-below 4 18, byte-at s 22 h)), identifier-again)
+  in-range-again k (is-wake e) = rw e ((number-below 8 3, tt), identifier-again)
+  in-range-again k (is-block e) = rw e ((number-below 8 3, tt), identifier-again)
+  in-range-again k (is-remove e) = rw e ((number-below 8 3, tt), identifier-again)
+  in-range-again k (is-tick e) = rw e ((number-below 8 3, tt), refl)
 
 values-again : (n : ℕ) (a : Change) → callOf (eventSaid (record { now = n; asked = a })) ≡ record { now = n; asked = a }
 values-again n (admit d) = refl
@@ -121,6 +128,6 @@ read-again s e h r =
     let w : Whole s e = read-whole s e r in
     let v : callOf e ≡ call s = ap callOf (w .same) ∙ values-again (call s .now) (call s .asked) in
     let n : sizeOf e ≡ 3 + payload (tag s) = read-size s e r .0 in (
-      subst InRange (sym v) (number-below s h 8 3, held-again s h (tag s) (tag-cases (tag s) (w .known-tag))),
+      subst InRange (sym v) (in-range-again s h (tag s) (tag-cases (tag s) (w .known-tag))),
       ap recordOf v ∙ record-again s h (w .known-tag) (w .said) (w .fits) ∙ ap (λ (k : ℕ). take k s) (sym n),
     )

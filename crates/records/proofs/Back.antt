@@ -1,4 +1,4 @@
--- What the encoder writes reads back, for every event in range, whatever lies behind it; and its bytes are bytes.
+-- What is written reads back, whatever lies behind it; and its bytes are bytes.
 -- Assumes nothing.
 use Prim.Native.Nat.{ℕ, _+_, _%_, _^_, _≤_, _<_}
 use native.Mathlib.Omega.{arith}
@@ -8,7 +8,8 @@ use mathlib.Core.List.{List, [], _∷_, _++_}
 use lib.ListN.{length, take, drop, length-append, take-append-drop}
 use lib.Seq.{length-take-le}
 use lib.Dec.{leb}
-use borrow.Author.Tests.{le-leb, leb-true, leb-false}
+use borrow.Author.Tests.{leb-true, leb-false}
+use Rattle.rules.proofs.Tests.{and-true}
 use Rattle.rules.specs.Limits.{largestTunnel}
 use Rattle.rules.specs.Vcpu.{Description}
 use Rattle.rules.specs.Change.{Change, admit, wake, block, remove, tick}
@@ -19,10 +20,10 @@ use Rattle.records.specs.declared.answers.Read.the-variants.{Event as Go
 use Rattle.records.specs.Bytes.{AreBytes, number, bytesOf}
 use Rattle.records.specs.Record.{event, known, payload, tag, lengthSaid, time, identifier, description, asked, call, reading, waits}
 use Rattle.records.specs.Answer.{eventSaid, refusal, readSpec}
-use Rattle.records.specs.Encode.{callOf, tagOf, fieldsOf, head, recordOf, sizeOf, Held, InRange, narrow, goes, writtenSize, written}
+use Rattle.records.specs.Encode.{callOf, tagOf, fieldsOf, head, recordOf, sizeOf, narrow, TermsOfTheirTypes, OfItsTypes, InRange, goes, writtenSize, written}
 use Rattle.records.proofs.Digits.{number-field, bytes-below, bytes-then}
 use Rattle.records.proofs.Cases.{whole-record, answers}
-use Rattle.records.proofs.Written.{length-record, record-tag, record-known, record-said, it-goes}
+use Rattle.records.proofs.Written.{length-record, record-tag, record-known, record-said}
 use Rattle.records.proofs.Behind.{tag-append, said-append, waits-header, waits-short, read-waits}
 
 same-terms : (d : Description) {i p c u : ℕ} → i ≡ d .tunnel → p ≡ d .period → c ≡ d .capacity → u ≡ d .priority
@@ -31,6 +32,9 @@ same-terms d e f g h = rw (e, f, g, h)
 
 same-call : (c : Call) {n : ℕ} {a : Change} → n ≡ c .now → a ≡ c .asked → _≡_ {A = Call} (record { now = n; asked = a }) c
 same-call c e f = rw (e, f)
+
+three-bytes : (i : ℕ) → leb i largestTunnel ≡ true → i < 256 ^ 3
+three-bytes i n = omega (arith, leb-true i largestTunnel n)
 
 module _ (now : ℕ) (t : List ℕ) where
   whole : Change → List ℕ
@@ -49,26 +53,26 @@ module _ (now : ℕ) (t : List ℕ) where
   unfolding head
   named-back tag size i b h = number-field (head tag size now) b 3 i h
 
-  described-back : (d : Description) → Held (admit d) → description (whole (admit d)) ≡ d
+  described-back : (d : Description) → d .tunnel < 256 ^ 3 → TermsOfTheirTypes (admit d) → description (whole (admit d)) ≡ d
   unfolding whole recordOf head payload
-  described-back d h =
+  described-back d n h =
       let a : List ℕ = head 1 20 now in
       let p : List ℕ = bytesOf 4 (d .period) in
       let c : List ℕ = bytesOf 4 (d .capacity) in
       let u : List ℕ = bytesOf 1 (d .priority) in
-      let i : identifier (whole (admit d)) ≡ d .tunnel = number-field a (p ++ (c ++ (u ++ t))) 3 (d .tunnel) (h .0) in
-      let e : number (whole (admit d)) 14 4 ≡ d .period = number-field (a ++ bytesOf 3 (d .tunnel)) (c ++ (u ++ t)) 4 (d .period) (h .1) in
-      let f : number (whole (admit d)) 18 4 ≡ d .capacity = number-field (a ++ (bytesOf 3 (d .tunnel) ++ p)) (u ++ t) 4 (d .capacity) (h .2) in
-      let g : d .priority % 256 ≡ d .priority = omega (arith, h .3) in
+      let i : identifier (whole (admit d)) ≡ d .tunnel = number-field a (p ++ (c ++ (u ++ t))) 3 (d .tunnel) n in
+      let e : number (whole (admit d)) 14 4 ≡ d .period = number-field (a ++ bytesOf 3 (d .tunnel)) (c ++ (u ++ t)) 4 (d .period) (h .0) in
+      let f : number (whole (admit d)) 18 4 ≡ d .capacity = number-field (a ++ (bytesOf 3 (d .tunnel) ++ p)) (u ++ t) 4 (d .capacity) (h .1) in
+      let g : d .priority % 256 ≡ d .priority = omega (arith, h .2) in
       same-terms d i e f g
 
-  asked-back : (a : Change) → Held a → asked (tagOf a) (whole a) ≡ a
+  asked-back : (a : Change) → narrow a ≡ true → TermsOfTheirTypes a → asked (tagOf a) (whole a) ≡ a
   unfolding whole recordOf head payload
-  asked-back (admit d) h = ap admit (described-back d h)
-  asked-back (wake i) h = ap wake (named-back 2 11 i t h)
-  asked-back (block i) h = ap block (named-back 3 11 i t h)
-  asked-back (remove i) h = ap remove (named-back 4 11 i t h)
-  asked-back tick h = refl
+  asked-back (admit d) n h = ap admit (described-back d (three-bytes (d .tunnel) n) h)
+  asked-back (wake i) n h = ap wake (named-back 2 11 i t (three-bytes i n))
+  asked-back (block i) n h = ap block (named-back 3 11 i t (three-bytes i n))
+  asked-back (remove i) n h = ap remove (named-back 4 11 i t (three-bytes i n))
+  asked-back tick n h = refl
 
 -- what is encoded reads back, whatever lies behind it
 pub reads-back : (c : Call) → InRange c → (t : List ℕ) → reading (recordOf c ++ t) ≡ event c
@@ -80,8 +84,8 @@ reads-back c h t =
     let k : known (tag s) ≡ true = ap known g ∙ record-known (c .asked) in
     let l : lengthSaid s ≡ payload (tag s) = said-append (recordOf c) t long ∙ record-said c ∙ ap payload (sym g) in
     let p : 3 + payload (tag s) ≤ length s = omega (arith, ap payload g, length-record c, length-append (recordOf c) t) in
-    let a : asked (tag s) s ≡ c .asked = ap (λ (n : ℕ). asked n s) g ∙ asked-back (c .now) t (c .asked) (h .1) in
-    whole-record s k l p ∙ ap event (same-call c (time-back (c .now) t (c .asked) (h .0)) a)
+    let a : asked (tag s) s ≡ c .asked = ap (λ (n : ℕ). asked n s) g ∙ asked-back (c .now) t (c .asked) (h .1) (h .0 .1) in
+    whole-record s k l p ∙ ap event (same-call c (time-back (c .now) t (c .asked) (h .0 .0)) a)
 
 -- an event is what its own values say
 pub said-again : (e : Event) → eventSaid (callOf e) ≡ e
@@ -114,20 +118,13 @@ record-bytes c =
     bytes-then 1 n (bytesOf 2 (payload n) ++ (bytesOf 8 (c .now) ++ f))
     (bytes-then 2 (payload n) (bytesOf 8 (c .now) ++ f) (bytes-then 8 (c .now) f (fields-below (c .asked))))
 
-held-narrow : (a : Change) → Held a → narrow a ≡ true
-held-narrow (admit d) h = le-leb (d .tunnel) largestTunnel (omega (arith, h .0))
-held-narrow (wake i) h = le-leb i largestTunnel (omega arith)
-held-narrow (block i) h = le-leb i largestTunnel (omega arith)
-held-narrow (remove i) h = le-leb i largestTunnel (omega arith)
-held-narrow tick h = refl
-
--- what `write` leaves reads back, for every event in range and any room that is large enough
-pub written-reads-back : (e : Event) (out : List ℕ) → InRange (callOf e) → sizeOf e ≤ length out
+-- what `write` wrote reads back as the event
+pub written-reads-back : (e : Event) (out : List ℕ) → OfItsTypes (callOf e) → goes e out ≡ true
     → (writtenSize e out ≡ sizeOf e) × (readSpec (written e out) ≡ Got e)
-unfolding writtenSize written
-written-reads-back e out h r =
-    let g : goes e out ≡ true = it-goes e out (held-narrow (callOf e .asked) (h .1)) r in
-    (rw g, rw g (event-reads-back e h (drop (sizeOf e) out)))
+unfolding goes writtenSize written
+written-reads-back e out h g =
+    let n : narrow (callOf e .asked) ≡ true = and-true (narrow (callOf e .asked)) (leb (sizeOf e) (length out)) g .0 in
+    (rw g, rw g (event-reads-back e (h, n) (drop (sizeOf e) out)))
 
 -- a proper part of a record waits for the rest
 pub part-waits : (c : Call) (k : ℕ) → k < length (recordOf c) → waits (take k (recordOf c)) ≡ true

@@ -1,6 +1,7 @@
 -- The bytes of an event, and what `size` and `write` promise.
 -- Assumes nothing.
 use Prim.Native.Nat.{ℕ, _+_, _^_, _<_}
+use mathlib.Core.Path.{_≡_}
 use mathlib.Core.Bool.{Bool, true, cond, _&&_}
 use mathlib.Core.List.{List, [], _++_}
 use lib.Dec.{leb}
@@ -50,24 +51,28 @@ recordOf c = head (tagOf (c .asked)) (payload (tagOf (c .asked))) (c .now) ++ fi
 unfoldable pub sizeOf : Event → ℕ
 sizeOf e = 3 + payload (tagOf (callOf e .asked))
 
--- what a record can hold: time 8 bytes, identifier 3, period 4, capacity 4, priority 1
-abbrev pub Held : Change → Type 0
-Held (admit d) = (d .tunnel < 256 ^ 3) × (d .period < 256 ^ 4) × (d .capacity < 256 ^ 4) × (d .priority < 256 ^ 1)
-Held (wake t) = t < 256 ^ 3
-Held (block t) = t < 256 ^ 3
-Held (remove t) = t < 256 ^ 3
-Held tick = Unit {0}
-
-abbrev pub InRange : Call → Type 0
-InRange c = (c .now < 256 ^ 8) × Held (c .asked)
-
--- the identifier has 24 bits; the other fields cannot hold more than their bytes
+-- the identifier has 24 bits
 abbrev pub narrow : Change → Bool
 narrow (admit d) = leb (d .tunnel) largestTunnel
 narrow (wake t) = leb t largestTunnel
 narrow (block t) = leb t largestTunnel
 narrow (remove t) = leb t largestTunnel
 narrow tick = true
+
+-- what the declared types guarantee: time 64 bits, period 32, capacity 32, priority 8
+abbrev pub TermsOfTheirTypes : Change → Type 0
+TermsOfTheirTypes (admit d) = (d .period < 2 ^ 32) × (d .capacity < 2 ^ 32) × (d .priority < 2 ^ 8)
+TermsOfTheirTypes (wake t) = Unit {0}
+TermsOfTheirTypes (block t) = Unit {0}
+TermsOfTheirTypes (remove t) = Unit {0}
+TermsOfTheirTypes tick = Unit {0}
+
+abbrev pub OfItsTypes : Call → Type 0
+OfItsTypes c = (c .now < 2 ^ 64) × TermsOfTheirTypes (c .asked)
+
+-- what a record can hold
+abbrev pub InRange : Call → Type 0
+InRange c = OfItsTypes c × (narrow (c .asked) ≡ true)
 
 -- the record would read back, and there is room for it
 unfoldable pub goes : Event → List ℕ → Bool
