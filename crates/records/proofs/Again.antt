@@ -113,21 +113,13 @@ module _ (s : List ℕ) (h : AreBytes s) where
   in-range-again k (is-remove e) = rw e ((number-below 8 3, tt), identifier-again)
   in-range-again k (is-tick e) = rw e ((number-below 8 3, tt), refl)
 
-values-again : (n : ℕ) (a : Change) → callOf (eventSaid (record { now = n; asked = a })) ≡ record { now = n; asked = a }
-values-again n (admit d) = refl
-values-again n (wake t) = refl
-values-again n (block t) = refl
-values-again n (remove t) = refl
-values-again n tick = refl
-
 -- what was read is in range, and its record is the bytes that were read
 pub read-again : (s : List ℕ) (e : Event) → AreBytes s → readSpec s ≡ Got e
     → InRange (callOf e) × (recordOf (callOf e) ≡ take (sizeOf e) s)
 unfolding call
 read-again s e h r =
     let w : Whole s e = read-whole s e r in
-    let v : callOf e ≡ call s = ap callOf (w .same) ∙ values-again (call s .now) (call s .asked) in
     let n : sizeOf e ≡ 3 + payload (tag s) = read-size s e r .0 in (
-      subst InRange (sym v) (in-range-again s h (tag s) (tag-cases (tag s) (w .known-tag))),
-      ap recordOf v ∙ record-again s h (w .known-tag) (w .said) (w .fits) ∙ ap (λ (k : ℕ). take k s) (sym n),
+      subst InRange (sym (w .same)) (in-range-again s h (tag s) (tag-cases (tag s) (w .known-tag))),
+      ap recordOf (w .same) ∙ record-again s h (w .known-tag) (w .said) (w .fits) ∙ ap (λ (k : ℕ). take k s) (sym n),
     )

@@ -24,14 +24,11 @@ use Rattle.records.specs.Encode.{callOf, tagOf, fieldsOf, head, recordOf
 use Rattle.records.proofs.Digits.{number-field, bytes-below, bytes-then}
 use Rattle.records.proofs.Cases.{whole-record, answers}
 use Rattle.records.proofs.Written.{length-record, record-tag, record-known, record-said}
-use Rattle.records.proofs.Behind.{tag-append, said-append, waits-header, waits-short, read-waits}
+use Rattle.records.proofs.Behind.{same-call, tag-append, said-append, waits-header, waits-short, read-waits}
 
 same-terms : (d : Description) {i p c u : ℕ} → i ≡ d .tunnel → p ≡ d .period → c ≡ d .capacity → u ≡ d .priority
     → _≡_ {A = Description} (record { tunnel = i; period = p; capacity = c; priority = u }) d
 same-terms d e f g h = rw (e, f, g, h)
-
-same-call : (c : Call) {n : ℕ} {a : Change} → n ≡ c .now → a ≡ c .asked → _≡_ {A = Call} (record { now = n; asked = a }) c
-same-call c e f = rw (e, f)
 
 three-bytes : (i : ℕ) → leb i largestTunnel ≡ true → i < 256 ^ 3
 three-bytes i n = omega (arith, leb-true i largestTunnel n)
@@ -81,11 +78,11 @@ reads-back c h t =
     let s : List ℕ = whole (c .now) t (c .asked) in
     let long : 3 ≤ length (recordOf c) = omega (arith, length-record c) in
     let g : tag s ≡ tagOf (c .asked) = tag-append (recordOf c) t long ∙ record-tag c in
-    let k : known (tag s) ≡ true = ap known g ∙ record-known (c .asked) in
+    let k : known (tag s) ≡ true = ap known g ∙ record-known c in
     let l : lengthSaid s ≡ payload (tag s) = said-append (recordOf c) t long ∙ record-said c ∙ ap payload (sym g) in
     let p : 3 + payload (tag s) ≤ length s = omega (arith, ap payload g, length-record c, length-append (recordOf c) t) in
     let a : asked (tag s) s ≡ c .asked = ap (λ (n : ℕ). asked n s) g ∙ asked-back (c .now) t (c .asked) (h .1) (h .0 .1) in
-    whole-record s k l p ∙ ap event (same-call c (time-back (c .now) t (c .asked) (h .0 .0)) a)
+    whole-record s k l p ∙ ap event (same-call (time-back (c .now) t (c .asked) (h .0 .0)) a)
 
 -- an event is what its own values say
 pub said-again : (e : Event) → eventSaid (callOf e) ≡ e
@@ -149,7 +146,7 @@ part-waits c k h = go (leb 3 k) refl
         let same : s ++ t ≡ r = take-append-drop k r in
         let g : tag s ≡ tagOf (c .asked) = sym (tag-append s t long) ∙ ap tag same ∙ record-tag c in
         let e : lengthSaid s ≡ payload (tag s) = sym (said-append s t long) ∙ ap lengthSaid same ∙ record-said c ∙ ap payload (sym g) in
-        waits-short s long (ap known g ∙ record-known (c .asked)) e (omega (arith, size, ap payload g, length-record c))
+        waits-short s long (ap known g ∙ record-known c) e (omega (arith, size, ap payload g, length-record c))
 
 -- a proper part of a record is answered by 20
 pub part-read : (c : Call) (k : ℕ) → k < length (recordOf c) → readSpec (take k (recordOf c)) ≡ refusal 20

@@ -70,7 +70,7 @@ module _ (s : List ℕ) where
   unfolding waits
   settled-whole h k e p = rw (le-ltb (length s) 3 h, k, eq-eqb (lengthSaid s) (payload (tag s)) e, le-ltb (length s) (3 + payload (tag s)) p)
 
-same-call : {n m : ℕ} {a b : Change} → n ≡ m → a ≡ b → _≡_ {A = Call} (record { now = n; asked = a }) (record { now = m; asked = b })
+pub same-call : {n m : ℕ} {a b : Change} → n ≡ m → a ≡ b → _≡_ {A = Call} (record { now = n; asked = a }) (record { now = m; asked = b })
 same-call e f = rw (e, f)
 
 module _ (s t : List ℕ) where

@@ -8,6 +8,7 @@ use mathlib.Core.List.{List}
 use mathlib.Core.Logic.{_⊎_, inl, inr, _↔_}
 use lib.ListN.{length}
 use Rattle.rules.specs.Change.{Change, admit, wake, block, remove, tick}
+use Rattle.rules.specs.Turn.{Call}
 use Rattle.records.specs.declared.answers.Event.{Event}
 use Rattle.records.specs.declared.answers.Read.the-variants.{Event as Got}
 use Rattle.records.specs.Record.{event, no, known, payload, tag, lengthSaid, asked, call, waits}
@@ -44,19 +45,20 @@ asked-tag k s (is-block e) = rw e
 asked-tag k s (is-remove e) = rw e
 asked-tag k s (is-tick e) = rw e
 
-said-tag : (n : ℕ) (a : Change) → tagOf (callOf (eventSaid (record { now = n; asked = a })) .asked) ≡ tagOf a
-said-tag n (admit d) = refl
-said-tag n (wake t) = refl
-said-tag n (block t) = refl
-said-tag n (remove t) = refl
-said-tag n tick = refl
+-- the paper's values of an event that says them
+values-again : (n : ℕ) (a : Change) → callOf (eventSaid (record { now = n; asked = a })) ≡ record { now = n; asked = a }
+values-again n (admit d) = refl
+values-again n (wake t) = refl
+values-again n (block t) = refl
+values-again n (remove t) = refl
+values-again n tick = refl
 
 -- what stands in the bytes where an event was read
 pub record Whole (s : List ℕ) (e : Event) : Type 0 where
   pub known-tag : known (tag s) ≡ true
   pub said : lengthSaid s ≡ payload (tag s)
   pub fits : 3 + payload (tag s) ≤ length s
-  pub same : e ≡ eventSaid (call s)
+  pub same : callOf e ≡ call s
 
 whole-case : (s : List ℕ) (e : Event) → Case s → readSpec s ≡ Got e → Whole s e
 unfolding told
@@ -65,7 +67,8 @@ whole-case s e (unknown h k) r = absurd (omega (arith, ap told (sym r ∙ answer
 whole-case s e (other h k n) r = absurd (omega (arith, ap told (sym r ∙ answers s (no 22) (other-length s h k n))))
 whole-case s e (short h k l p) r = absurd (omega (arith, ap told (sym r ∙ answers s (no 20) (short-payload s h k l p))))
 whole-case s e (whole h k l p) r =
-    record { known-tag = k; said = l; fits = p; same = got-same (sym r ∙ answers s (event (call s)) (whole-record s k l p)) }
+    let same : e ≡ eventSaid (call s) = got-same (sym r ∙ answers s (event (call s)) (whole-record s k l p)) in
+    record { known-tag = k; said = l; fits = p; same = ap callOf same ∙ values-again (call s .now) (call s .asked) }
 
 pub read-whole : (s : List ℕ) (e : Event) → readSpec s ≡ Got e → Whole s e
 read-whole s e r = whole-case s e (case s) r
@@ -76,7 +79,5 @@ unfolding call sizeOf
 read-size s e r =
     let w : Whole s e = read-whole s e r in
     let t : tagOf (callOf e .asked) ≡ tag s =
-    ap (λ (x : Event). tagOf (callOf x .asked)) (w .same)
-    ∙ said-tag (call s .now) (call s .asked)
-    ∙ asked-tag (tag s) s (tag-cases (tag s) (w .known-tag)) in
+    ap (λ (c : Call). tagOf (c .asked)) (w .same) ∙ asked-tag (tag s) s (tag-cases (tag s) (w .known-tag)) in
     (ap (λ (n : ℕ). 3 + payload n) t, omega (arith, ap payload t, w .fits))

@@ -50,17 +50,6 @@ laid-both s at to xs ys e h =
     ∙ ap (λ (n : ℕ). drop n s) ends in
     rw (front, back) (simp append-assoc)
 
-pub length-laid : (s : List ℕ) (at : ℕ) (xs : List ℕ) → at + length xs ≤ length s → length (laid s at xs) ≡ length s
-unfolding laid
-length-laid s at xs h =
-    omega (
-      arith,
-      length-append (take at s) (xs ++ drop (at + length xs) s),
-      length-append xs (drop (at + length xs) s),
-      length-take-le at s (omega arith),
-      length-drop (at + length xs) s,
-    )
-
 -- a turn of the loop that writes a number's bytes: the last of those left is set
 pub laid-last : (out : List ℕ) (at left rest : ℕ) → 0 < left → at + left ≤ length out
     → laid (set out (at + (left - 1)) (rest % 256)) at (bytesOf (left - 1) (rest / 256)) ≡ laid out at (bytesOf left rest)

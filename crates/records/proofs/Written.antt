@@ -14,46 +14,39 @@ use Rattle.records.specs.Record.{known, payload, tag, lengthSaid}
 use Rattle.records.specs.Encode.{callOf, tagOf, fieldsOf, head, recordOf, sizeOf, narrow, goes, writtenSize, written, laid}
 
 -- "admit, 20 bytes; wake, block, remove, 11 bytes each; tick, 8 bytes"
-pub length-record : (c : Call) → length (recordOf c) ≡ 3 + payload (tagOf (c .asked))
-unfolding recordOf head payload
-length-record c = go (c .asked)
+record-says : (c : Call)
+    → (length (recordOf c) ≡ 3 + payload (tagOf (c .asked)))
+    × (tag (recordOf c) ≡ tagOf (c .asked))
+    × (lengthSaid (recordOf c) ≡ payload (tagOf (c .asked)))
+    × (known (tagOf (c .asked)) ≡ true)
+unfolding recordOf head payload known
+record-says c = go (c .asked)
   where
-    go : (a : Change) → length (head (tagOf a) (payload (tagOf a)) (c .now) ++ fieldsOf a) ≡ 3 + payload (tagOf a)
-    go (admit d) = refl
-    go (wake t) = refl
-    go (block t) = refl
-    go (remove t) = refl
-    go tick = refl
+    whole : Change → List ℕ
+    whole a = head (tagOf a) (payload (tagOf a)) (c .now) ++ fieldsOf a
+
+    go : (a : Change)
+        → (length (whole a) ≡ 3 + payload (tagOf a))
+        × (tag (whole a) ≡ tagOf a)
+        × (lengthSaid (whole a) ≡ payload (tagOf a))
+        × (known (tagOf a) ≡ true)
+    go (admit d) = (refl, refl, refl, refl)
+    go (wake t) = (refl, refl, refl, refl)
+    go (block t) = (refl, refl, refl, refl)
+    go (remove t) = (refl, refl, refl, refl)
+    go tick = (refl, refl, refl, refl)
+
+pub length-record : (c : Call) → length (recordOf c) ≡ 3 + payload (tagOf (c .asked))
+length-record c = record-says c .0
 
 pub record-tag : (c : Call) → tag (recordOf c) ≡ tagOf (c .asked)
-unfolding recordOf head
-record-tag c = go (c .asked)
-  where
-    go : (a : Change) → tag (head (tagOf a) (payload (tagOf a)) (c .now) ++ fieldsOf a) ≡ tagOf a
-    go (admit d) = refl
-    go (wake t) = refl
-    go (block t) = refl
-    go (remove t) = refl
-    go tick = refl
+record-tag c = record-says c .1
 
 pub record-said : (c : Call) → lengthSaid (recordOf c) ≡ payload (tagOf (c .asked))
-unfolding recordOf head payload
-record-said c = go (c .asked)
-  where
-    go : (a : Change) → lengthSaid (head (tagOf a) (payload (tagOf a)) (c .now) ++ fieldsOf a) ≡ payload (tagOf a)
-    go (admit d) = refl
-    go (wake t) = refl
-    go (block t) = refl
-    go (remove t) = refl
-    go tick = refl
+record-said c = record-says c .2
 
-pub record-known : (a : Change) → known (tagOf a) ≡ true
-unfolding known
-record-known (admit d) = refl
-record-known (wake t) = refl
-record-known (block t) = refl
-record-known (remove t) = refl
-record-known tick = refl
+pub record-known : (c : Call) → known (tagOf (c .asked)) ≡ true
+record-known c = record-says c .3
 
 module _ (e : Event) (out : List ℕ) where
   pub kept : goes e out ≡ false → (0 ≡ writtenSize e out) × (out ≡ written e out)

@@ -18,7 +18,7 @@ pub enum Read {
 }
 
 // The payload bytes that a tag asks for.
-pub enum Payload {
+pub(crate) enum Payload {
     Bytes(u32),
     Unknown,
 }

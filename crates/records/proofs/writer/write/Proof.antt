@@ -2,10 +2,14 @@
 -- front, by the case of the event. Assumes nothing.
 use borrow.Author.Needs.{needs}
 use native.Mathlib.Omega.{arith}
+use Prim.Native.Nat.{ℕ, _≤_}
 use mathlib.Core.Path.{_≡_, sym, _∙_}
+use mathlib.Core.List.{List}
+use lib.ListN.{length}
 use borrow.Author.Tests.{not-true, not-false}
+use Rattle.records.specs.declared.answers.Event.{Event}
 use Rattle.records.specs.Record.{payload}
-use Rattle.records.specs.Encode.{head, recordOf, sizeOf}
+use Rattle.records.specs.Encode.{callOf, head, recordOf, sizeOf, writtenSize, written, laid}
 use Rattle.records.proofs.Written.{kept, too-wide, no-room, it-goes, put-whole}
 use Rattle.records.proofs.writer.write.Statement.{statement}
 use Rattle.records.proofs.writer.write.Tie as tie
@@ -22,14 +26,31 @@ returns c = kept _ _ (too-wide _ _ (sym (c .before .fits2 .ensures) ∙ not-true
 returns-2 : tie.Need-returns-2
 returns-2 c = kept _ _ (no-room _ _ (omega (arith, c .before .before .before .size .ensures)))
 
+-- where both tests are passed
+abbrev its-event : tie.Else2 → Event
+its-event c = c .before .before .before .before .before .args .event
+
+abbrev its-out : tie.Else2 → List ℕ
+its-out c = c .before .before .before .before .before .args .out .now
+
+has-room : (c : tie.Else2) → sizeOf (its-event c) ≤ length (its-out c)
+has-room c = omega (arith, c .before .before .before .size .ensures, c .if2 .left)
+
+whole : (c : tie.Else2) (e : Event) (out : List ℕ) → its-event c ≡ e → out ≡ laid (its-out c) 0 (recordOf (callOf e))
+    → (c .before .before .before .size .result ≡ writtenSize (its-event c) (its-out c)) × (out ≡ written (its-event c) (its-out c))
+whole c e out same p =
+    put-whole _ _ e _ out same (c .before .before .before .size .ensures)
+    (it-goes _ _ (sym (c .before .before .fits2 .ensures) ∙ not-false _ (c .before .if1 .left)) (has-room c))
+    p
+
 enum-known-event : tie.Need-enum-known-event
 enum-known-event c = search needs
 
 put-admit-requires : tie.Need-put-admit-requires
 unfolding sizeOf payload
 put-admit-requires c κs =
-    let z : sizeOf (c .before .before .before .before .before .before .before .before .before .args .event) ≡ 23 = rw (c .before .before .event .given .1) in
-    omega (arith, c .before .before .before .before .before .before .before .size .ensures, c .before .before .before .before .if2 .left)
+    let z : sizeOf (its-event (c .before .before .before .before)) ≡ 23 = rw (c .before .before .event .given .1) in
+    omega (arith, has-room (c .before .before .before .before))
 
 enum-known-event-2 : tie.Need-enum-known-event-2
 enum-known-event-2 c = search needs
@@ -37,8 +58,8 @@ enum-known-event-2 c = search needs
 put-naming-requires : tie.Need-put-naming-requires
 unfolding sizeOf payload
 put-naming-requires c κs =
-    let z : sizeOf (c .before .before .before .before .before .before .before .before .before .args .event) ≡ 14 = rw (c .before .before .event2 .given .1) in
-    omega (arith, c .before .before .before .before .before .before .before .size .ensures, c .before .before .before .before .if2 .left)
+    let z : sizeOf (its-event (c .before .before .before .before)) ≡ 14 = rw (c .before .before .event2 .given .1) in
+    omega (arith, has-room (c .before .before .before .before))
 
 enum-known-event-3 : tie.Need-enum-known-event-3
 enum-known-event-3 c = search needs
@@ -46,8 +67,8 @@ enum-known-event-3 c = search needs
 put-naming-requires-2 : tie.Need-put-naming-requires-2
 unfolding sizeOf payload
 put-naming-requires-2 c κs =
-    let z : sizeOf (c .before .before .before .before .before .before .before .before .before .args .event) ≡ 14 = rw (c .before .before .event3 .given .1) in
-    omega (arith, c .before .before .before .before .before .before .before .size .ensures, c .before .before .before .before .if2 .left)
+    let z : sizeOf (its-event (c .before .before .before .before)) ≡ 14 = rw (c .before .before .event3 .given .1) in
+    omega (arith, has-room (c .before .before .before .before))
 
 enum-known-event-4 : tie.Need-enum-known-event-4
 enum-known-event-4 c = search needs
@@ -55,8 +76,8 @@ enum-known-event-4 c = search needs
 put-naming-requires-3 : tie.Need-put-naming-requires-3
 unfolding sizeOf payload
 put-naming-requires-3 c κs =
-    let z : sizeOf (c .before .before .before .before .before .before .before .before .before .args .event) ≡ 14 = rw (c .before .before .event4 .given .1) in
-    omega (arith, c .before .before .before .before .before .before .before .size .ensures, c .before .before .before .before .if2 .left)
+    let z : sizeOf (its-event (c .before .before .before .before)) ≡ 14 = rw (c .before .before .event4 .given .1) in
+    omega (arith, has-room (c .before .before .before .before))
 
 enum-known-event-5 : tie.Need-enum-known-event-5
 enum-known-event-5 c = search needs
@@ -64,58 +85,43 @@ enum-known-event-5 c = search needs
 put-head-requires : tie.Need-put-head-requires
 unfolding sizeOf payload
 put-head-requires c κs =
-    let z : sizeOf (c .before .before .before .before .before .before .before .before .before .args .event) ≡ 11 = rw (c .before .before .event5 .given .1) in
-    omega (arith, c .before .before .before .before .before .before .before .size .ensures, c .before .before .before .before .if2 .left)
+    let z : sizeOf (its-event (c .before .before .before .before)) ≡ 11 = rw (c .before .before .event5 .given .1) in
+    omega (arith, has-room (c .before .before .before .before))
 
 same-length : tie.Need-same-length
 same-length c = search needs
 
 returns-3 : tie.Need-returns-3
 unfolding recordOf payload
-returns-3 c =
-    put-whole _ _ _ _ _ (c .before .before .before .before .before .event .given .1) (c .before .before .before .before .before .before .before .before .before .before .size .ensures)
-    (it-goes _ _ (sym (c .before .before .before .before .before .before .before .before .before .fits2 .ensures) ∙ not-false _ (c .before .before .before .before .before .before .before .before .if1 .left)) (omega (arith, c .before .before .before .before .before .before .before .before .before .before .size .ensures, c .before .before .before .before .before .before .before .if2 .left)))
-    (c .before .before .put-admit .ensures)
+returns-3 c = whole (c .before .before .before .before .before .before .before) _ _ (c .before .before .before .before .before .event .given .1) (c .before .before .put-admit .ensures)
 
 same-length-2 : tie.Need-same-length-2
 same-length-2 c = search needs
 
 returns-4 : tie.Need-returns-4
 unfolding recordOf payload
-returns-4 c =
-    put-whole _ _ _ _ _ (c .before .before .before .before .before .event2 .given .1) (c .before .before .before .before .before .before .before .before .before .before .size .ensures)
-    (it-goes _ _ (sym (c .before .before .before .before .before .before .before .before .before .fits2 .ensures) ∙ not-false _ (c .before .before .before .before .before .before .before .before .if1 .left)) (omega (arith, c .before .before .before .before .before .before .before .before .before .before .size .ensures, c .before .before .before .before .before .before .before .if2 .left)))
-    (c .before .before .put-naming .ensures)
+returns-4 c = whole (c .before .before .before .before .before .before .before) _ _ (c .before .before .before .before .before .event2 .given .1) (c .before .before .put-naming .ensures)
 
 same-length-3 : tie.Need-same-length-3
 same-length-3 c = search needs
 
 returns-5 : tie.Need-returns-5
 unfolding recordOf payload
-returns-5 c =
-    put-whole _ _ _ _ _ (c .before .before .before .before .before .event3 .given .1) (c .before .before .before .before .before .before .before .before .before .before .size .ensures)
-    (it-goes _ _ (sym (c .before .before .before .before .before .before .before .before .before .fits2 .ensures) ∙ not-false _ (c .before .before .before .before .before .before .before .before .if1 .left)) (omega (arith, c .before .before .before .before .before .before .before .before .before .before .size .ensures, c .before .before .before .before .before .before .before .if2 .left)))
-    (c .before .before .put-naming2 .ensures)
+returns-5 c = whole (c .before .before .before .before .before .before .before) _ _ (c .before .before .before .before .before .event3 .given .1) (c .before .before .put-naming2 .ensures)
 
 same-length-4 : tie.Need-same-length-4
 same-length-4 c = search needs
 
 returns-6 : tie.Need-returns-6
 unfolding recordOf payload
-returns-6 c =
-    put-whole _ _ _ _ _ (c .before .before .before .before .before .event4 .given .1) (c .before .before .before .before .before .before .before .before .before .before .size .ensures)
-    (it-goes _ _ (sym (c .before .before .before .before .before .before .before .before .before .fits2 .ensures) ∙ not-false _ (c .before .before .before .before .before .before .before .before .if1 .left)) (omega (arith, c .before .before .before .before .before .before .before .before .before .before .size .ensures, c .before .before .before .before .before .before .before .if2 .left)))
-    (c .before .before .put-naming3 .ensures)
+returns-6 c = whole (c .before .before .before .before .before .before .before) _ _ (c .before .before .before .before .before .event4 .given .1) (c .before .before .put-naming3 .ensures)
 
 same-length-5 : tie.Need-same-length-5
 same-length-5 c = search needs
 
 returns-7 : tie.Need-returns-7
 unfolding recordOf payload head
-returns-7 c =
-    put-whole _ _ _ _ _ (c .before .before .before .before .before .event5 .given .1) (c .before .before .before .before .before .before .before .before .before .before .size .ensures)
-    (it-goes _ _ (sym (c .before .before .before .before .before .before .before .before .before .fits2 .ensures) ∙ not-false _ (c .before .before .before .before .before .before .before .before .if1 .left)) (omega (arith, c .before .before .before .before .before .before .before .before .before .before .size .ensures, c .before .before .before .before .before .before .before .if2 .left)))
-    (c .before .before .put-head .ensures)
+returns-7 c = whole (c .before .before .before .before .before .before .before) _ _ (c .before .before .before .before .before .event5 .given .1) (c .before .before .put-head .ensures)
 
 pub write-spec : {M : Type 1} → statement M
 write-spec =
