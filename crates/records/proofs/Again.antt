@@ -10,14 +10,13 @@ use lib.ListN.{length, getD, take, drop, length-drop}
 use lib.Seq.{take-suc, take-add, drop-drop, getD-drop}
 use lib.Dec.{leb}
 use borrow.Author.Tests.{le-leb}
-use Rattle.records.specs.Record.{description}
 use Rattle.rules.specs.Limits.{largestTunnel}
-use Rattle.rules.specs.Change.{Change, admit, wake, block, remove, tick}
+use Rattle.rules.specs.Change.{admit}
 use Rattle.records.specs.declared.answers.Event.{Event}
 use Rattle.records.specs.declared.answers.Read.the-variants.{Event as Got}
 use Rattle.records.specs.Bytes.{AreBytes, number, bytesOf}
-use Rattle.records.specs.Record.{known, payload, tag, lengthSaid, time, identifier, asked, call}
-use Rattle.records.specs.Answer.{eventSaid, readSpec}
+use Rattle.records.specs.Record.{known, payload, tag, lengthSaid, time, identifier, description, asked, call}
+use Rattle.records.specs.Answer.{readSpec}
 use Rattle.records.specs.Encode.{callOf, tagOf, fieldsOf, head, recordOf, sizeOf, InRange}
 use Rattle.records.proofs.Tags.{Tag, is-admit, is-wake, is-block, is-remove, is-tick, tag-cases, payload-bounds, payload-admit, payload-naming, payload-tick}
 use Rattle.records.proofs.Exactly.{Whole, read-whole, asked-tag, read-size}

@@ -6,6 +6,8 @@ use mathlib.Core.Path.{_≡_, refl, ap, sym, _∙_, subst}
 use mathlib.Core.Bool.{Bool, true, false, _&&_}
 use mathlib.Core.List.{List, _++_}
 use lib.ListN.{length, drop}
+use lib.Seq.{sets-eq}
+use native.Mathlib.Omega.{arith}
 use borrow.Author.Tests.{le-leb, lt-leb}
 use Rattle.rules.specs.Change.{Change, admit, wake, block, remove, tick}
 use Rattle.rules.specs.Turn.{Call}
@@ -69,11 +71,12 @@ module _ (e : Event) (out : List ℕ) where
   unfolding goes
   it-goes n h = rw (n, le-leb (sizeOf e) (length out) h)
 
-  pub put-whole : (e′ : Event) (r : ℕ) (out′ : List ℕ) → e ≡ e′ → r ≡ sizeOf e → goes e out ≡ true
+  pub put-whole : (e′ : Event) (r : ℕ) (out′ : List ℕ) → e ≡ e′ → r ≡ sizeOf e → narrow (callOf e .asked) ≡ true → sizeOf e ≤ length out
       → out′ ≡ laid out 0 (recordOf (callOf e′)) → (r ≡ writtenSize e out) × (out′ ≡ written e out)
   unfolding writtenSize written laid sizeOf
-  put-whole e′ r out′ same size h p =
-      let n : 0 + length (recordOf (callOf e)) ≡ sizeOf e = zero-add _ ∙ length-record (callOf e) in
-      let q : out′ ≡ recordOf (callOf e) ++ drop (0 + length (recordOf (callOf e))) out =
-      subst (λ (x : Event). out′ ≡ recordOf (callOf x) ++ drop (0 + length (recordOf (callOf x))) out) (sym same) p in
-      (rw h size, rw h (q ∙ ap (λ (k : ℕ). recordOf (callOf e) ++ drop k out) n))
+  put-whole e′ r out′ same size w room p =
+      let h : goes e out ≡ true = it-goes w room in
+      let x : List ℕ = recordOf (callOf e) in
+      let n : 0 + length x ≡ sizeOf e = zero-add _ ∙ length-record (callOf e) in
+      let q : out′ ≡ laid out 0 x = subst (λ (y : Event). out′ ≡ laid out 0 (recordOf (callOf y))) (sym same) p in
+      (rw h size, rw h (q ∙ sets-eq x out 0 (omega arith) ∙ ap (λ (k : ℕ). x ++ drop k out) n))

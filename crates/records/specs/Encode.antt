@@ -5,7 +5,8 @@ use mathlib.Core.Path.{_≡_}
 use mathlib.Core.Bool.{Bool, true, cond, _&&_}
 use mathlib.Core.List.{List, [], _++_}
 use lib.Dec.{leb}
-use lib.ListN.{length, take, drop}
+use lib.ListN.{length, drop}
+use lib.Seq.{sets}
 use Rattle.rules.specs.Limits.{largestTunnel}
 use Rattle.rules.specs.Change.{Change, admit, wake, block, remove, tick}
 use Rattle.rules.specs.Turn.{Call}
@@ -86,6 +87,6 @@ writtenSize e out = cond (goes e out) (sizeOf e) 0
 unfoldable pub written : Event → List ℕ → List ℕ
 written e out = cond (goes e out) (recordOf (callOf e) ++ drop (sizeOf e) out) out
 
--- `s` with `xs` laid over it from `at` on
+-- `s` with `xs` laid over it from `at` on; only the promises of private functions cite it
 unfoldable pub laid : List ℕ → ℕ → List ℕ → List ℕ
-laid s at xs = take at s ++ (xs ++ drop (at + length xs) s)
+laid s at xs = sets s at xs

@@ -38,7 +38,7 @@ loop-less c = search needs
 
 loop-again : tie.Need-loop-again Inv-loop μ-loop
 loop-again c =
-    (omega arith, simp length-set (c .before .loop .inv .1), laid-last (c .before .loop .out) (c .before .before .args .at) (c .before .loop .left) (c .before .loop .rest) (c .loop-test .taken) (omega (arith, c .before .loop .inv)) ∙ c .before .loop .inv .2)
+    (omega arith, simp length-set (c .before .loop .inv .1), laid-last (c .before .loop .out) (c .before .before .args .at) (c .before .loop .left) (c .before .loop .rest) (c .loop-test .taken) ∙ c .before .loop .inv .2)
 
 same-length : tie.Need-same-length Inv-loop μ-loop
 same-length c = search needs

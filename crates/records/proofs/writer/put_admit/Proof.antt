@@ -1,7 +1,6 @@
 -- `records::writer::put_admit` meets its contract: the four fields are laid behind the head, one behind the other. Assumes nothing.
 use borrow.Author.Needs.{needs}
 use Prim.Native.Nat.{ℕ, _+_}
-use native.Mathlib.Omega.{arith}
 use mathlib.Core.Path.{_≡_, refl}
 use mathlib.Core.List.{List, _++_}
 use Rattle.turns.specs.declared.Description.{Description}
@@ -61,15 +60,15 @@ returns c =
     let x₄ : List ℕ = x₃ ++ bytesOf 4 (d .capacity .0) in
     let o₂ : c .before .before .before .before .before .before .before .before .before .before .before .before .before .before .before .before .before .put .last .0 ≡ laid s 0 x₂ =
     laid-field s (c .before .before .before .before .before .before .before .before .before .before .before .before .before .before .before .before .before .before .before .before .before .before .put-head .last .0) (c .before .before .before .before .before .before .before .before .before .before .before .before .before .before .before .before .before .put .last .0) 11 x₁ 3 (c .before .before .before .before .before .before .before .before .before .before .before .before .before .before .before .before .before .before .number .result) (d .tunnel .0)
-    (c .before .before .before .before .before .before .before .before .before .before .before .before .before .before .before .before .before .before .number .ensures) refl (omega arith) (c .before .before .before .before .before .before .before .before .before .before .before .before .before .before .before .before .before .before .before .before .before .before .put-head .ensures) (c .before .before .before .before .before .before .before .before .before .before .before .before .before .before .before .before .before .put .ensures) in
+    (c .before .before .before .before .before .before .before .before .before .before .before .before .before .before .before .before .before .before .number .ensures) refl (c .before .before .before .before .before .before .before .before .before .before .before .before .before .before .before .before .before .before .before .before .before .before .put-head .ensures) (c .before .before .before .before .before .before .before .before .before .before .before .before .before .before .before .before .before .put .ensures) in
     let o₃ : c .before .before .before .before .before .before .before .before .before .before .before .before .put2 .last .0 ≡ laid s 0 x₃ =
     laid-field s (c .before .before .before .before .before .before .before .before .before .before .before .before .before .before .before .before .before .put .last .0) (c .before .before .before .before .before .before .before .before .before .before .before .before .put2 .last .0) 14 x₂ 4 (c .before .before .before .before .before .before .before .before .before .before .before .before .before .ticks .result) (d .period .0)
-    (c .before .before .before .before .before .before .before .before .before .before .before .before .before .ticks .ensures) refl (omega arith) o₂ (c .before .before .before .before .before .before .before .before .before .before .before .before .put2 .ensures) in
+    (c .before .before .before .before .before .before .before .before .before .before .before .before .before .ticks .ensures) refl o₂ (c .before .before .before .before .before .before .before .before .before .before .before .before .put2 .ensures) in
     let o₄ : c .before .before .before .before .before .before .before .put3 .last .0 ≡ laid s 0 x₄ =
     laid-field s (c .before .before .before .before .before .before .before .before .before .before .before .before .put2 .last .0) (c .before .before .before .before .before .before .before .put3 .last .0) 18 x₃ 4 (c .before .before .before .before .before .before .before .before .ticks2 .result) (d .capacity .0)
-    (c .before .before .before .before .before .before .before .before .ticks2 .ensures) refl (omega arith) o₃ (c .before .before .before .before .before .before .before .put3 .ensures) in
+    (c .before .before .before .before .before .before .before .before .ticks2 .ensures) refl o₃ (c .before .before .before .before .before .before .before .put3 .ensures) in
     laid-field s (c .before .before .before .before .before .before .before .put3 .last .0) (c .before .before .put4 .last .0) 22 x₄ 1 (d .priority) (d .priority)
-    refl refl (omega arith) o₄ (c .before .before .put4 .ensures)
+    refl refl o₄ (c .before .before .put4 .ensures)
 
 pub put-admit-spec : {M : Type 1} → statement M
 put-admit-spec =

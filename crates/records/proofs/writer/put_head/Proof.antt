@@ -1,7 +1,6 @@
 -- `records::writer::put_head` meets its contract: tag, length and time are laid one behind the other. Assumes nothing.
 use borrow.Author.Needs.{needs}
 use Prim.Native.Nat.{ℕ, _+_}
-use native.Mathlib.Omega.{arith}
 use mathlib.Core.Path.{_≡_, refl}
 use mathlib.Core.List.{List, _++_}
 use Rattle.records.specs.Bytes.{bytesOf}
@@ -32,10 +31,10 @@ returns c =
     let tag : ℕ = c .before .before .before .before .before .before .before .before .before .before .before .before .before .before .args .tag in
     let size : ℕ = c .before .before .before .before .before .before .before .before .before .before .before .before .before .before .args .payload in
     let o₂ : c .before .before .before .before .before .before .before .put2 .last .0 ≡ laid s 0 (bytesOf 1 tag ++ bytesOf 2 size) =
-    laid-field s (c .before .before .before .before .before .before .before .before .before .before .before .put .last .0) (c .before .before .before .before .before .before .before .put2 .last .0) 1 (bytesOf 1 tag) 2 size size refl refl (omega arith)
+    laid-field s (c .before .before .before .before .before .before .before .before .before .before .before .put .last .0) (c .before .before .before .before .before .before .before .put2 .last .0) 1 (bytesOf 1 tag) 2 size size refl refl
     (c .before .before .before .before .before .before .before .before .before .before .before .put .ensures) (c .before .before .before .before .before .before .before .put2 .ensures) in
     laid-field s (c .before .before .before .before .before .before .before .put2 .last .0) (c .before .before .put3 .last .0) 3 (bytesOf 1 tag ++ bytesOf 2 size) 8 (c .before .before .before .ticks .result) (c .before .before .before .before .before .before .before .before .before .before .before .before .before .before .args .time .0)
-    (c .before .before .before .ticks .ensures) refl (omega arith) o₂ (c .before .before .put3 .ensures)
+    (c .before .before .before .ticks .ensures) refl o₂ (c .before .before .put3 .ensures)
 
 pub put-head-spec : {M : Type 1} → statement M
 put-head-spec =

@@ -1,7 +1,6 @@
 -- `records::writer::put_naming` meets its contract: the identifier is laid behind the head. Assumes nothing.
 use borrow.Author.Needs.{needs}
 use Prim.Native.Nat.{ℕ}
-use native.Mathlib.Omega.{arith}
 use mathlib.Core.Path.{refl}
 use mathlib.Core.List.{List}
 use Rattle.records.specs.Encode.{head}
@@ -29,7 +28,7 @@ unfolding head
 returns c =
     let s : List ℕ = c .before .before .before .before .before .before .before .before .before .before .args .out .now in
     laid-field s (c .before .before .before .before .before .before .before .put-head .last .0) (c .before .before .put .last .0) 11 (head (c .before .before .before .before .before .before .before .before .before .before .args .tag) 11 (c .before .before .before .before .before .before .before .before .before .before .args .time .0)) 3
-    (c .before .before .before .number .result) (c .before .before .before .before .before .before .before .before .before .before .args .id .0) (c .before .before .before .number .ensures) refl (omega arith) (c .before .before .before .before .before .before .before .put-head .ensures) (c .before .before .put .ensures)
+    (c .before .before .before .number .result) (c .before .before .before .before .before .before .before .before .before .before .args .id .0) (c .before .before .before .number .ensures) refl (c .before .before .before .before .before .before .before .put-head .ensures) (c .before .before .put .ensures)
 
 pub put-naming-spec : {M : Type 1} → statement M
 put-naming-spec =

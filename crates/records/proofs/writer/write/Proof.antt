@@ -10,7 +10,7 @@ use borrow.Author.Tests.{not-true, not-false}
 use Rattle.records.specs.declared.answers.Event.{Event}
 use Rattle.records.specs.Record.{payload}
 use Rattle.records.specs.Encode.{callOf, head, recordOf, sizeOf, writtenSize, written, laid}
-use Rattle.records.proofs.Written.{kept, too-wide, no-room, it-goes, put-whole}
+use Rattle.records.proofs.Written.{kept, too-wide, no-room, put-whole}
 use Rattle.records.proofs.writer.write.Statement.{statement}
 use Rattle.records.proofs.writer.write.Tie as tie
 
@@ -40,7 +40,7 @@ whole : (c : tie.Else2) (e : Event) (out : List ℕ) → its-event c ≡ e → o
     → (c .before .before .before .size .result ≡ writtenSize (its-event c) (its-out c)) × (out ≡ written (its-event c) (its-out c))
 whole c e out same p =
     put-whole _ _ e _ out same (c .before .before .before .size .ensures)
-    (it-goes _ _ (sym (c .before .before .fits2 .ensures) ∙ not-false _ (c .before .if1 .left)) (has-room c))
+    (sym (c .before .before .fits2 .ensures) ∙ not-false _ (c .before .if1 .left)) (has-room c)
     p
 
 enum-known-event : tie.Need-enum-known-event
