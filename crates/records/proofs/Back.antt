@@ -20,7 +20,7 @@ use Rattle.records.specs.declared.answers.Read.the-variants.{Event as Go
 use Rattle.records.specs.Bytes.{AreBytes, number, bytesOf}
 use Rattle.records.specs.Record.{event, known, payload, tag, lengthSaid, time, identifier, description, asked, call, reading, waits}
 use Rattle.records.specs.Answer.{eventSaid, refusal, readSpec}
-use Rattle.records.specs.Encode.{callOf, tagOf, fieldsOf, head, recordOf, sizeOf, narrow, TermsOfTheirTypes, OfItsTypes, InRange, goes, writtenSize, written}
+use Rattle.records.specs.Encode.{callOf, tagOf, fieldsOf, head, recordOf, sizeOf, has24Bits, TermsOfTheirTypes, OfItsTypes, InRange, isWritten, writtenSize, written}
 use Rattle.records.proofs.Digits.{number-field, bytes-below, bytes-then}
 use Rattle.records.proofs.Cases.{whole-record, answers}
 use Rattle.records.proofs.Written.{length-record, record-tag, record-known, record-said}
@@ -46,9 +46,9 @@ module _ (now : ℕ) (t : List ℕ) where
   time-back tick h = number-field (5 ∷ 0 ∷ 8 ∷ []) t 8 now h
 
   -- the identifier that follows the head
-  named-back : (tag size i : ℕ) (b : List ℕ) → i < 256 ^ 3 → identifier (head tag size now ++ (bytesOf 3 i ++ b)) ≡ i
+  named-back : (tag long i : ℕ) (b : List ℕ) → i < 256 ^ 3 → identifier (head tag long now ++ (bytesOf 3 i ++ b)) ≡ i
   unfolding head
-  named-back tag size i b h = number-field (head tag size now) b 3 i h
+  named-back tag long i b h = number-field (head tag long now) b 3 i h
 
   described-back : (d : Description) → d .tunnel < 256 ^ 3 → TermsOfTheirTypes (admit d) → description (whole (admit d)) ≡ d
   unfolding whole recordOf head payload
@@ -63,7 +63,7 @@ module _ (now : ℕ) (t : List ℕ) where
       let g : d .priority % 256 ≡ d .priority = omega (arith, h .2) in
       same-terms d i e f g
 
-  asked-back : (a : Change) → narrow a ≡ true → TermsOfTheirTypes a → asked (tagOf a) (whole a) ≡ a
+  asked-back : (a : Change) → has24Bits a ≡ true → TermsOfTheirTypes a → asked (tagOf a) (whole a) ≡ a
   unfolding whole recordOf head payload
   asked-back (admit d) n h = ap admit (described-back d (three-bytes (d .tunnel) n) h)
   asked-back (wake i) n h = ap wake (named-back 2 11 i t (three-bytes i n))
@@ -116,11 +116,11 @@ record-bytes c =
     (bytes-then 2 (payload n) (bytesOf 8 (c .now) ++ f) (bytes-then 8 (c .now) f (fields-below (c .asked))))
 
 -- what `write` wrote reads back as the event
-pub written-reads-back : (e : Event) (out : List ℕ) → OfItsTypes (callOf e) → goes e out ≡ true
+pub written-reads-back : (e : Event) (out : List ℕ) → OfItsTypes (callOf e) → isWritten e out ≡ true
     → (writtenSize e out ≡ sizeOf e) × (readSpec (written e out) ≡ Got e)
-unfolding goes writtenSize written
+unfolding isWritten writtenSize written
 written-reads-back e out h g =
-    let n : narrow (callOf e .asked) ≡ true = and-true (narrow (callOf e .asked)) (leb (sizeOf e) (length out)) g .0 in
+    let n : has24Bits (callOf e .asked) ≡ true = and-true (has24Bits (callOf e .asked)) (leb (sizeOf e) (length out)) g .0 in
     (rw g, rw g (event-reads-back e (h, n) (drop (sizeOf e) out)))
 
 -- a proper part of a record waits for the rest

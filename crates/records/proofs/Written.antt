@@ -13,7 +13,7 @@ use Rattle.rules.specs.Change.{Change, admit, wake, block, remove, tick}
 use Rattle.rules.specs.Turn.{Call}
 use Rattle.records.specs.declared.answers.Event.{Event}
 use Rattle.records.specs.Record.{known, payload, tag, lengthSaid}
-use Rattle.records.specs.Encode.{callOf, tagOf, fieldsOf, head, recordOf, sizeOf, narrow, goes, writtenSize, written, laid}
+use Rattle.records.specs.Encode.{callOf, tagOf, fieldsOf, head, recordOf, sizeOf, has24Bits, isWritten, writtenSize, written, laid}
 
 -- "admit, 20 bytes; wake, block, remove, 11 bytes each; tick, 8 bytes"
 record-says : (c : Call)
@@ -51,31 +51,31 @@ pub record-known : (c : Call) → known (tagOf (c .asked)) ≡ true
 record-known c = record-says c .3
 
 module _ (e : Event) (out : List ℕ) where
-  pub kept : goes e out ≡ false → (0 ≡ writtenSize e out) × (out ≡ written e out)
+  pub kept : isWritten e out ≡ false → (0 ≡ writtenSize e out) × (out ≡ written e out)
   unfolding writtenSize written
   kept h = (rw h, rw h)
 
-  pub too-wide : narrow (callOf e .asked) ≡ false → goes e out ≡ false
-  unfolding goes
+  pub too-wide : has24Bits (callOf e .asked) ≡ false → isWritten e out ≡ false
+  unfolding isWritten
   too-wide h = rw h
 
-  pub no-room : length out < sizeOf e → goes e out ≡ false
-  unfolding goes
-  no-room h = rw (lt-leb (sizeOf e) (length out) h) (go (narrow (callOf e .asked)))
+  pub no-room : length out < sizeOf e → isWritten e out ≡ false
+  unfolding isWritten
+  no-room h = rw (lt-leb (sizeOf e) (length out) h) (go (has24Bits (callOf e .asked)))
     where
       go : (b : Bool) → b && false ≡ false
       go true = refl
       go false = refl
 
-  pub it-goes : narrow (callOf e .asked) ≡ true → sizeOf e ≤ length out → goes e out ≡ true
-  unfolding goes
-  it-goes n h = rw (n, le-leb (sizeOf e) (length out) h)
+  is-written : has24Bits (callOf e .asked) ≡ true → sizeOf e ≤ length out → isWritten e out ≡ true
+  unfolding isWritten
+  is-written n h = rw (n, le-leb (sizeOf e) (length out) h)
 
-  pub put-whole : (e′ : Event) (r : ℕ) (out′ : List ℕ) → e ≡ e′ → r ≡ sizeOf e → narrow (callOf e .asked) ≡ true → sizeOf e ≤ length out
+  pub put-whole : (e′ : Event) (r : ℕ) (out′ : List ℕ) → e ≡ e′ → r ≡ sizeOf e → has24Bits (callOf e .asked) ≡ true → sizeOf e ≤ length out
       → out′ ≡ laid out 0 (recordOf (callOf e′)) → (r ≡ writtenSize e out) × (out′ ≡ written e out)
   unfolding writtenSize written laid sizeOf
   put-whole e′ r out′ same size w room p =
-      let h : goes e out ≡ true = it-goes w room in
+      let h : isWritten e out ≡ true = is-written w room in
       let x : List ℕ = recordOf (callOf e) in
       let n : 0 + length x ≡ sizeOf e = zero-add _ ∙ length-record (callOf e) in
       let q : out′ ≡ laid out 0 x = subst (λ (y : Event). out′ ≡ laid out 0 (recordOf (callOf y))) (sym same) p in

@@ -42,7 +42,7 @@ fieldsOf tick = []
 
 -- tag 1, length 2, time 8
 unfoldable pub head : ℕ → ℕ → ℕ → List ℕ
-head tag size time = bytesOf 1 tag ++ (bytesOf 2 size ++ bytesOf 8 time)
+head tag length time = bytesOf 1 tag ++ (bytesOf 2 length ++ bytesOf 8 time)
 
 -- the whole record of a call
 unfoldable pub recordOf : Call → List ℕ
@@ -53,12 +53,12 @@ unfoldable pub sizeOf : Event → ℕ
 sizeOf e = 3 + payload (tagOf (callOf e .asked))
 
 -- the identifier has 24 bits
-abbrev pub narrow : Change → Bool
-narrow (admit d) = leb (d .tunnel) largestTunnel
-narrow (wake t) = leb t largestTunnel
-narrow (block t) = leb t largestTunnel
-narrow (remove t) = leb t largestTunnel
-narrow tick = true
+abbrev pub has24Bits : Change → Bool
+has24Bits (admit d) = leb (d .tunnel) largestTunnel
+has24Bits (wake t) = leb t largestTunnel
+has24Bits (block t) = leb t largestTunnel
+has24Bits (remove t) = leb t largestTunnel
+has24Bits tick = true
 
 -- what the declared types guarantee: time 64 bits, period 32, capacity 32, priority 8
 abbrev pub TermsOfTheirTypes : Change → Type 0
@@ -73,19 +73,19 @@ OfItsTypes c = (c .now < 2 ^ 64) × TermsOfTheirTypes (c .asked)
 
 -- what a record can hold
 abbrev pub InRange : Call → Type 0
-InRange c = OfItsTypes c × (narrow (c .asked) ≡ true)
+InRange c = OfItsTypes c × (has24Bits (c .asked) ≡ true)
 
 -- the record would read back, and there is room for it
-unfoldable pub goes : Event → List ℕ → Bool
-goes e out = narrow (callOf e .asked) && leb (sizeOf e) (length out)
+unfoldable pub isWritten : Event → List ℕ → Bool
+isWritten e out = has24Bits (callOf e .asked) && leb (sizeOf e) (length out)
 
 -- how many bytes are written: the whole record or nothing
 unfoldable pub writtenSize : Event → List ℕ → ℕ
-writtenSize e out = cond (goes e out) (sizeOf e) 0
+writtenSize e out = cond (isWritten e out) (sizeOf e) 0
 
 -- what `out` holds then: the record at its front, and the rest as it was
 unfoldable pub written : Event → List ℕ → List ℕ
-written e out = cond (goes e out) (recordOf (callOf e) ++ drop (sizeOf e) out) out
+written e out = cond (isWritten e out) (recordOf (callOf e) ++ drop (sizeOf e) out) out
 
 -- `s` with `xs` laid over it from `at` on; only the promises of private functions cite it
 unfoldable pub laid : List ℕ → ℕ → List ℕ → List ℕ

@@ -13,7 +13,7 @@ ghost use Rattle.rules.specs.Limits.{largestTunnel};
 ghost use Rattle.rules.specs.Change.{admit};
 ghost use Rattle.turns.specs.Calls.{described};
 ghost use Rattle.records.specs.Bytes.{bytesOf};
-ghost use Rattle.records.specs.Encode.{callOf, head, fieldsOf, sizeOf, narrow, writtenSize, written, laid};
+ghost use Rattle.records.specs.Encode.{callOf, head, fieldsOf, sizeOf, has24Bits, writtenSize, written, laid};
 
 // The bytes of the event's whole record.
 pub fn size(event: Event) -> usize
@@ -28,7 +28,7 @@ pub fn size(event: Event) -> usize
     }
 }
 
-fn short(id: Tunnel) -> bool
+fn has_24_bits(id: Tunnel) -> bool
     ensures { λ r. ⌜ r ≡ leb (id .0) largestTunnel ⌝ }
 {
     id.number() <= LARGEST_TUNNEL
@@ -36,16 +36,16 @@ fn short(id: Tunnel) -> bool
 
 // Whether the event's numbers fit its record: an identifier can be too wide, nothing else.
 fn fits(event: Event) -> bool
-    ensures { λ r. ⌜ r ≡ narrow (callOf event .asked) ⌝ }
+    ensures { λ r. ⌜ r ≡ has24Bits (callOf event .asked) ⌝ }
 {
     match event {
         Event::Admit(_, d) => {
             let id = d.tunnel;
-            short(id)
+            has_24_bits(id)
         }
-        Event::Wake(_, id) => short(id),
-        Event::Block(_, id) => short(id),
-        Event::Remove(_, id) => short(id),
+        Event::Wake(_, id) => has_24_bits(id),
+        Event::Block(_, id) => has_24_bits(id),
+        Event::Remove(_, id) => has_24_bits(id),
         Event::Tick(_) => true,
     }
 }
@@ -101,8 +101,8 @@ pub fn write(event: Event, out: &mut [u8]) -> usize
     ensures { λ r. ⌜ (r ≡ writtenSize event (now (out .entry))) × (now (out .exit) ≡ written event (now (out .entry))) ⌝ }
 {
     let whole = size(event);
-    let narrow = fits(event);
-    if !narrow {
+    let id_fits = fits(event);
+    if !id_fits {
         return 0;
     }
     if out.len() < whole {

@@ -29,11 +29,11 @@ unfolding head
 returns c =
     let s : List ℕ = c .before .before .before .before .before .before .before .before .before .before .before .before .before .before .args .out .now in
     let tag : ℕ = c .before .before .before .before .before .before .before .before .before .before .before .before .before .before .args .tag in
-    let size : ℕ = c .before .before .before .before .before .before .before .before .before .before .before .before .before .before .args .payload in
-    let o₂ : c .before .before .before .before .before .before .before .put2 .last .0 ≡ laid s 0 (bytesOf 1 tag ++ bytesOf 2 size) =
-    laid-field s (c .before .before .before .before .before .before .before .before .before .before .before .put .last .0) (c .before .before .before .before .before .before .before .put2 .last .0) 1 (bytesOf 1 tag) 2 size size refl refl
+    let long : ℕ = c .before .before .before .before .before .before .before .before .before .before .before .before .before .before .args .payload in
+    let o₂ : c .before .before .before .before .before .before .before .put2 .last .0 ≡ laid s 0 (bytesOf 1 tag ++ bytesOf 2 long) =
+    laid-field s (c .before .before .before .before .before .before .before .before .before .before .before .put .last .0) (c .before .before .before .before .before .before .before .put2 .last .0) 1 (bytesOf 1 tag) 2 long long refl refl
     (c .before .before .before .before .before .before .before .before .before .before .before .put .ensures) (c .before .before .before .before .before .before .before .put2 .ensures) in
-    laid-field s (c .before .before .before .before .before .before .before .put2 .last .0) (c .before .before .put3 .last .0) 3 (bytesOf 1 tag ++ bytesOf 2 size) 8 (c .before .before .before .ticks .result) (c .before .before .before .before .before .before .before .before .before .before .before .before .before .before .args .time .0)
+    laid-field s (c .before .before .before .before .before .before .before .put2 .last .0) (c .before .before .put3 .last .0) 3 (bytesOf 1 tag ++ bytesOf 2 long) 8 (c .before .before .before .ticks .result) (c .before .before .before .before .before .before .before .before .before .before .before .before .before .before .args .time .0)
     (c .before .before .before .ticks .ensures) refl o₂ (c .before .before .put3 .ensures)
 
 pub put-head-spec : {M : Type 1} → statement M
