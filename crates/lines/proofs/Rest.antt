@@ -46,7 +46,7 @@ waits-few s w = go (or-true (ltb (length s) 3) (known (tag s) && (eqb (lengthSai
     go (inr h) =
         let p = and-true (known (tag s)) (eqb (lengthSaid s) (payload (tag s)) && ltb (length s) (3 + payload (tag s))) h in
         let q = and-true (eqb (lengthSaid s) (payload (tag s))) (ltb (length s) (3 + payload (tag s))) (p .1) in
-        omega (arith, ltb-true (length s) (3 + payload (tag s)) (q .1), payload-bounds (tag s))
+        omega (arith, ltb-true (length s) (3 + payload (tag s)) (q .1), payload-bounds (tag s) (p .0))
 
 -- a refusal with the number 20 is that of bytes that wait
 twenty-waits : (s : List ℕ) (r : Refusal) → Case s → readSpec s ≡ No r → r .number ≡ 20 → waits s ≡ true

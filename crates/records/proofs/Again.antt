@@ -94,11 +94,11 @@ module _ (s : List ℕ) (h : AreBytes s) where
   record-again k l p =
       let g : tagOf (asked (tag s) s) ≡ tag s = asked-tag (tag s) s (tag-cases (tag s) k) in
       let m : ℕ = payload (tag s) - 8 in
-      let sum : 11 + m ≡ 3 + payload (tag s) = omega (arith, payload-bounds (tag s)) in
+      let sum : 11 + m ≡ 3 + payload (tag s) = omega (arith, payload-bounds (tag s) k) in
       let front : head (tagOf (asked (tag s) s)) (payload (tagOf (asked (tag s) s))) (time s) ≡ take 11 s =
       ap (λ (n : ℕ). head n (payload n) (time s)) g
       ∙ ap (λ (n : ℕ). head (tag s) n (time s)) (sym l)
-      ∙ head-again (omega (arith, payload-bounds (tag s))) in
+      ∙ head-again (omega (arith, payload-bounds (tag s) k)) in
       cat front (fields-again (tag s) m (tag-cases (tag s) k) p sum) ∙ part s 0 11 m ∙ ap (λ (n : ℕ). take n s) sum
 
   identifier-again : leb (identifier s) largestTunnel ≡ true

@@ -18,7 +18,7 @@ use Rattle.records.specs.declared.answers.Event.{Event}
 use Rattle.records.specs.declared.answers.Event.the-variants.{Admit, Wake, Block, Remove, Tick}
 use Rattle.records.specs.declared.answers.Read.the-variants.{Event as Got}
 use Rattle.records.specs.Bytes.{AreBytes, number, bytesOf}
-use Rattle.records.specs.Record.{event, known, payload, tag, lengthSaid, time, identifier, description, asked, call, reading, waits}
+use Rattle.records.specs.Record.{event, known, payloadOf, payload, tag, lengthSaid, time, identifier, description, asked, call, reading, waits}
 use Rattle.records.specs.Answer.{eventSaid, refusal, readSpec}
 use Rattle.records.specs.Encode.{callOf, tagOf, fieldsOf, head, recordOf, sizeOf, has24Bits, TermsOfTheirTypes, OfItsTypes, InRange, isWritten, writtenSize, written}
 use Rattle.records.proofs.Digits.{number-field, bytes-below, bytes-then}
@@ -38,7 +38,7 @@ module _ (now : ℕ) (t : List ℕ) where
   whole a = recordOf (record { now = now; asked = a }) ++ t
 
   time-back : (a : Change) → now < 256 ^ 8 → time (whole a) ≡ now
-  unfolding whole recordOf head payload
+  unfolding whole recordOf head payload payloadOf
   time-back (admit d) h = number-field (1 ∷ 0 ∷ 20 ∷ []) (fieldsOf (admit d) ++ t) 8 now h
   time-back (wake i) h = number-field (2 ∷ 0 ∷ 11 ∷ []) (fieldsOf (wake i) ++ t) 8 now h
   time-back (block i) h = number-field (3 ∷ 0 ∷ 11 ∷ []) (fieldsOf (block i) ++ t) 8 now h
@@ -51,7 +51,7 @@ module _ (now : ℕ) (t : List ℕ) where
   named-back tag long i b h = number-field (head tag long now) b 3 i h
 
   described-back : (d : Description) → d .tunnel < 256 ^ 3 → TermsOfTheirTypes (admit d) → description (whole (admit d)) ≡ d
-  unfolding whole recordOf head payload
+  unfolding whole recordOf head payload payloadOf
   described-back d n h =
       let a : List ℕ = head 1 20 now in
       let p : List ℕ = bytesOf 4 (d .period) in
@@ -64,7 +64,7 @@ module _ (now : ℕ) (t : List ℕ) where
       same-terms d i e f g
 
   asked-back : (a : Change) → has24Bits a ≡ true → TermsOfTheirTypes a → asked (tagOf a) (whole a) ≡ a
-  unfolding whole recordOf head payload
+  unfolding whole recordOf head payload payloadOf
   asked-back (admit d) n h = ap admit (described-back d (three-bytes (d .tunnel) n) h)
   asked-back (wake i) n h = ap wake (named-back 2 11 i t (three-bytes i n))
   asked-back (block i) n h = ap block (named-back 3 11 i t (three-bytes i n))

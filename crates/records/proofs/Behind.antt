@@ -103,7 +103,7 @@ module _ (s t : List ℕ) where
   unfolding call
   call-append k p =
       let g : tag (s ++ t) ≡ tag s = tag-append (omega arith) in
-      let m : time (s ++ t) ≡ time s = number-append 8 3 s t (omega (arith, payload-bounds (tag s))) in
+      let m : time (s ++ t) ≡ time s = number-append 8 3 s t (omega (arith, payload-bounds (tag s) k)) in
       same-call m (ap (λ (n : ℕ). asked n (s ++ t)) g ∙ asked-append (tag s) (tag-cases (tag s) k) p)
 
   append-case : Case s → waits s ≡ false → reading (s ++ t) ≡ reading s
@@ -165,11 +165,11 @@ header-changes s h = go (known (tag x)) refl
     long : 3 ≤ length x
     long = omega (arith, length-append s (replicate 20 0))
 
-    other-said : lengthSaid x ≡ payload (tag x) → ⊥
-    other-said e = omega (arith, third-zero s h, payload-bounds (tag x))
+    other-said : known (tag x) ≡ true → lengthSaid x ≡ payload (tag x) → ⊥
+    other-said k e = omega (arith, third-zero s h, payload-bounds (tag x) k)
 
     go : (k : Bool) → known (tag x) ≡ k → told (readSpec x) ≡ 20 → ⊥
-    go true k n = omega (arith, ap told (answers x (no 22) (other-length x long k other-said)))
+    go true k n = omega (arith, ap told (answers x (no 22) (other-length x long k (other-said k))))
     go false k n = omega (arith, ap told (answers x (no 21) (unknown-tag x long k)))
 
 waits-changes : (s : List ℕ) → Case s → waits s ≡ true → told (readSpec (s ++ replicate 20 0)) ≡ 20 → ⊥
@@ -181,7 +181,7 @@ waits-changes s (short h k e p) w n =
     let t : List ℕ = replicate 20 0 in
     let x : List ℕ = s ++ t in
     let g : tag x ≡ tag s = tag-append s t h in
-    let l : 3 + payload (tag x) ≤ length x = omega (arith, ap payload g, payload-bounds (tag s), length-append s t) in
+    let l : 3 + payload (tag x) ≤ length x = omega (arith, ap payload g, payload-bounds (tag s) k, length-append s t) in
     omega (arith, ap told (answers x (event (call x)) (whole-record x (ap known g ∙ k) (said-append s t h ∙ e ∙ ap payload (sym g)) l)))
 waits-changes s (whole h k e p) w n = clash (sym w ∙ settled-whole s h k e p)
 

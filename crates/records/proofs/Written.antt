@@ -12,7 +12,7 @@ use borrow.Author.Tests.{le-leb, lt-leb}
 use Rattle.rules.specs.Change.{Change, admit, wake, block, remove, tick}
 use Rattle.rules.specs.Turn.{Call}
 use Rattle.records.specs.declared.answers.Event.{Event}
-use Rattle.records.specs.Record.{known, payload, tag, lengthSaid}
+use Rattle.records.specs.Record.{known, payloadOf, payload, tag, lengthSaid}
 use Rattle.records.specs.Encode.{callOf, tagOf, fieldsOf, head, recordOf, sizeOf, has24Bits, isWritten, writtenSize, written, laid}
 
 -- "admit, 20 bytes; wake, block, remove, 11 bytes each; tick, 8 bytes"
@@ -21,7 +21,7 @@ record-says : (c : Call)
     × (tag (recordOf c) ≡ tagOf (c .asked))
     × (lengthSaid (recordOf c) ≡ payload (tagOf (c .asked)))
     × (known (tagOf (c .asked)) ≡ true)
-unfolding recordOf head payload known
+unfolding recordOf head payload payloadOf known
 record-says c = go (c .asked)
   where
     whole : Change → List ℕ

@@ -1,9 +1,10 @@
 -- Document 01, "Event records and lines": what a record says, in plain numbers, and the checks in their order.
 -- Assumes nothing.
 use Prim.Native.Nat.{ℕ, _+_}
-use mathlib.Core.Bool.{Bool, cond, not, _&&_, _||_}
+use mathlib.Core.Bool.{Bool, true, false, cond, not, _&&_, _||_}
 use mathlib.Core.List.{List}
-use lib.Dec.{leb, ltb, eqb}
+use mathlib.Core.Option.{Option, none, some, Option·getD}
+use lib.Dec.{ltb, eqb}
 use lib.ListN.{length, getD}
 use Rattle.rules.specs.Vcpu.{Description}
 use Rattle.rules.specs.Change.{Change, admit, wake, block, remove, tick}
@@ -16,13 +17,26 @@ pub data Reading : Type 0 where
   event : Call → Reading
   refused : Refusal → Reading
 
--- 1 admit, 2 wake, 3 block, 4 remove, 5 tick; 6 and 7 are unknown
+-- the bytes of a tag's payload: "1 admit, 20 bytes", "2 wake, 3 block, 4 remove, 11 bytes each", "5 tick, 8 bytes"; no other is known
+unfoldable pub payloadOf : ℕ → Option ℕ
+payloadOf tag =
+    cond (eqb tag 1) (some 20)
+    (cond (eqb tag 2) (some 11)
+    (cond (eqb tag 3) (some 11)
+    (cond (eqb tag 4) (some 11)
+    (cond (eqb tag 5) (some 8)
+    none))))
+
+abbrev pub isThere : Option ℕ → Bool
+isThere none = false
+isThere (some n) = true
+
 unfoldable pub known : ℕ → Bool
-known tag = leb 1 tag && leb tag 5
+known tag = isThere (payloadOf tag)
 
 -- the bytes of a known tag's payload
 unfoldable pub payload : ℕ → ℕ
-payload tag = cond (eqb tag 1) 20 (cond (eqb tag 5) 8 11)
+payload tag = Option·getD (payloadOf tag) 0
 
 -- "A record is a tag byte, a two-byte length and the payload"
 abbrev pub tag : List ℕ → ℕ

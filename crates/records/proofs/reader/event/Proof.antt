@@ -9,7 +9,7 @@ use Rattle.records.proofs.reader.event.Statement.{statement}
 use Rattle.records.proofs.reader.event.Tie as tie
 
 time-requires : tie.Need-time-requires
-time-requires c κs = omega (arith, payload-bounds (c .before .args .tag), c .before .pre .2)
+time-requires c κs = omega (arith, payload-bounds (c .before .args .tag) (c .before .pre .1), c .before .pre .2)
 
 new-requires : tie.Need-new-requires
 new-requires c κs = search needs

@@ -1,5 +1,5 @@
 -- `records::writer::size` meets its contract: three bytes of header and the tag's payload. Assumes nothing.
-use Rattle.records.specs.Record.{payload}
+use Rattle.records.specs.Record.{payloadOf, payload}
 use Rattle.records.specs.Encode.{sizeOf}
 use borrow.Author.Needs.{needs}
 use Rattle.records.proofs.writer.size.Statement.{statement}
@@ -21,23 +21,23 @@ enum-told-5 : tie.Need-enum-told-5
 enum-told-5 c = search needs
 
 returns : tie.Need-returns
-unfolding sizeOf payload
+unfolding sizeOf payload payloadOf
 returns c = rw (c .enum-told .given .1)
 
 returns-2 : tie.Need-returns-2
-unfolding sizeOf payload
+unfolding sizeOf payload payloadOf
 returns-2 c = rw (c .enum-told2 .given .1)
 
 returns-3 : tie.Need-returns-3
-unfolding sizeOf payload
+unfolding sizeOf payload payloadOf
 returns-3 c = rw (c .enum-told3 .given .1)
 
 returns-4 : tie.Need-returns-4
-unfolding sizeOf payload
+unfolding sizeOf payload payloadOf
 returns-4 c = rw (c .enum-told4 .given .1)
 
 returns-5 : tie.Need-returns-5
-unfolding sizeOf payload
+unfolding sizeOf payload payloadOf
 returns-5 c = rw (c .enum-told5 .given .1)
 
 pub size-spec : {M : Type 1} → statement M

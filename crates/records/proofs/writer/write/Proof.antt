@@ -8,7 +8,7 @@ use mathlib.Core.List.{List}
 use lib.ListN.{length}
 use borrow.Author.Tests.{not-true, not-false}
 use Rattle.records.specs.declared.answers.Event.{Event}
-use Rattle.records.specs.Record.{payload}
+use Rattle.records.specs.Record.{payloadOf, payload}
 use Rattle.records.specs.Encode.{callOf, head, recordOf, sizeOf, writtenSize, written, laid}
 use Rattle.records.proofs.Written.{kept, too-wide, no-room, put-whole}
 use Rattle.records.proofs.writer.write.Statement.{statement}
@@ -47,7 +47,7 @@ enum-known-event : tie.Need-enum-known-event
 enum-known-event c = search needs
 
 put-admit-requires : tie.Need-put-admit-requires
-unfolding sizeOf payload
+unfolding sizeOf payload payloadOf
 put-admit-requires c κs =
     let z : sizeOf (its-event (c .before .before .before .before)) ≡ 23 = rw (c .before .before .event .given .1) in
     omega (arith, has-room (c .before .before .before .before))
@@ -56,7 +56,7 @@ enum-known-event-2 : tie.Need-enum-known-event-2
 enum-known-event-2 c = search needs
 
 put-naming-requires : tie.Need-put-naming-requires
-unfolding sizeOf payload
+unfolding sizeOf payload payloadOf
 put-naming-requires c κs =
     let z : sizeOf (its-event (c .before .before .before .before)) ≡ 14 = rw (c .before .before .event2 .given .1) in
     omega (arith, has-room (c .before .before .before .before))
@@ -65,7 +65,7 @@ enum-known-event-3 : tie.Need-enum-known-event-3
 enum-known-event-3 c = search needs
 
 put-naming-requires-2 : tie.Need-put-naming-requires-2
-unfolding sizeOf payload
+unfolding sizeOf payload payloadOf
 put-naming-requires-2 c κs =
     let z : sizeOf (its-event (c .before .before .before .before)) ≡ 14 = rw (c .before .before .event3 .given .1) in
     omega (arith, has-room (c .before .before .before .before))
@@ -74,7 +74,7 @@ enum-known-event-4 : tie.Need-enum-known-event-4
 enum-known-event-4 c = search needs
 
 put-naming-requires-3 : tie.Need-put-naming-requires-3
-unfolding sizeOf payload
+unfolding sizeOf payload payloadOf
 put-naming-requires-3 c κs =
     let z : sizeOf (its-event (c .before .before .before .before)) ≡ 14 = rw (c .before .before .event4 .given .1) in
     omega (arith, has-room (c .before .before .before .before))
@@ -83,7 +83,7 @@ enum-known-event-5 : tie.Need-enum-known-event-5
 enum-known-event-5 c = search needs
 
 put-head-requires : tie.Need-put-head-requires
-unfolding sizeOf payload
+unfolding sizeOf payload payloadOf
 put-head-requires c κs =
     let z : sizeOf (its-event (c .before .before .before .before)) ≡ 11 = rw (c .before .before .event5 .given .1) in
     omega (arith, has-room (c .before .before .before .before))
@@ -92,35 +92,35 @@ same-length : tie.Need-same-length
 same-length c = search needs
 
 returns-3 : tie.Need-returns-3
-unfolding recordOf payload
+unfolding recordOf payload payloadOf
 returns-3 c = whole (c .before .before .before .before .before .before .before) _ _ (c .before .before .before .before .before .event .given .1) (c .before .before .put-admit .ensures)
 
 same-length-2 : tie.Need-same-length-2
 same-length-2 c = search needs
 
 returns-4 : tie.Need-returns-4
-unfolding recordOf payload
+unfolding recordOf payload payloadOf
 returns-4 c = whole (c .before .before .before .before .before .before .before) _ _ (c .before .before .before .before .before .event2 .given .1) (c .before .before .put-naming .ensures)
 
 same-length-3 : tie.Need-same-length-3
 same-length-3 c = search needs
 
 returns-5 : tie.Need-returns-5
-unfolding recordOf payload
+unfolding recordOf payload payloadOf
 returns-5 c = whole (c .before .before .before .before .before .before .before) _ _ (c .before .before .before .before .before .event3 .given .1) (c .before .before .put-naming2 .ensures)
 
 same-length-4 : tie.Need-same-length-4
 same-length-4 c = search needs
 
 returns-6 : tie.Need-returns-6
-unfolding recordOf payload
+unfolding recordOf payload payloadOf
 returns-6 c = whole (c .before .before .before .before .before .before .before) _ _ (c .before .before .before .before .before .event4 .given .1) (c .before .before .put-naming3 .ensures)
 
 same-length-5 : tie.Need-same-length-5
 same-length-5 c = search needs
 
 returns-7 : tie.Need-returns-7
-unfolding recordOf payload head
+unfolding recordOf payload payloadOf head
 returns-7 c = whole (c .before .before .before .before .before .before .before) _ _ (c .before .before .before .before .before .event5 .given .1) (c .before .before .put-head .ensures)
 
 pub write-spec : {M : Type 1} → statement M
