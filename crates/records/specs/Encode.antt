@@ -52,7 +52,7 @@ recordOf c = head (tagOf (c .asked)) (payload (tagOf (c .asked))) (c .now) ++ fi
 unfoldable pub sizeOf : Event → ℕ
 sizeOf e = 3 + payload (tagOf (callOf e .asked))
 
--- the identifier has 24 bits
+-- "identifier 3": a wider one would not read back
 abbrev pub has24Bits : Change → Bool
 has24Bits (admit d) = leb (d .tunnel) largestTunnel
 has24Bits (wake t) = leb t largestTunnel
@@ -60,7 +60,7 @@ has24Bits (block t) = leb t largestTunnel
 has24Bits (remove t) = leb t largestTunnel
 has24Bits tick = true
 
--- what the declared types guarantee: time 64 bits, period 32, capacity 32, priority 8
+-- what the declared types guarantee of an admit's terms: period 32 bits, capacity 32, priority 8
 abbrev pub TermsOfTheirTypes : Change → Type 0
 TermsOfTheirTypes (admit d) = (d .period < 2 ^ 32) × (d .capacity < 2 ^ 32) × (d .priority < 2 ^ 8)
 TermsOfTheirTypes (wake t) = Unit {0}
@@ -68,6 +68,7 @@ TermsOfTheirTypes (block t) = Unit {0}
 TermsOfTheirTypes (remove t) = Unit {0}
 TermsOfTheirTypes tick = Unit {0}
 
+-- what the declared types guarantee: that, and time 64 bits
 abbrev pub OfItsTypes : Call → Type 0
 OfItsTypes c = (c .now < 2 ^ 64) × TermsOfTheirTypes (c .asked)
 
