@@ -16,7 +16,7 @@ use Rattle.rules.specs.Meaning.{MayRun}
 use Rattle.rules.proofs.Tests.{tests, clash, no-some, cases, and-true}
 use Rattle.rules.proofs.Named.{is-named, named-itself}
 use Rattle.rules.proofs.Lists.{all-imp, all-among, among-keep, all-kept, none-kept, keeps-none, only-one}
-use Rattle.rules.proofs.Urgency.{irreflexive, asymmetric, still-not, total}
+use Rattle.rules.proofs.Urgency.{not-more, no-more, irreflexive, asymmetric, still-not, total}
 
 ready-says : (v : Vcpu) → ready v ≡ true → (v .runnable ≡ true) × (0 < v .usable)
 ready-says v e =
@@ -68,7 +68,8 @@ chosen vs v e =
       on-card = q .0;
       runnable = ready-says v (q .1) .0;
       has-ticks = ready-says v (q .1) .1;
-      most-urgent = all-imp (λ w f r t. f (is-ready w r t)) vs (all-kept (λ w. moreUrgent (w .terms) (v .terms) ≡ false) ready vs (p .1));
+      most-urgent = all-imp (λ w f r t. not-more (w .terms) (v .terms) (f (is-ready w r t))) vs
+          (all-kept (λ w. moreUrgent (w .terms) (v .terms) ≡ false) ready vs (p .1));
     }
 
 pub idle : (vs : List Vcpu) → choose vs ≡ none → All (λ w. ready w ≡ false) vs
@@ -86,8 +87,8 @@ only vs once v f = go (choose vs) refl
         only-one (named (v .terms .tunnel)) vs (once (v .terms .tunnel)) w v (g .on-card) (f .on-card)
         (is-named (v .terms .tunnel) w e) (named-itself v)
 
-    no-more : (a b : Vcpu) → MayRun vs a → MayRun vs b → moreUrgent (a .terms) (b .terms) ≡ false
-    no-more a b g h = all-among _ vs (h .most-urgent) a (g .on-card) (g .runnable) (g .has-ticks)
+    neither : (a b : Vcpu) → MayRun vs a → MayRun vs b → moreUrgent (a .terms) (b .terms) ≡ false
+    neither a b g h = no-more (a .terms) (b .terms) (all-among _ vs (h .most-urgent) a (g .on-card) (g .runnable) (g .has-ticks))
 
     eq : (w : Vcpu) → MayRun vs w → w ≡ v
     eq w g = ⊎-elim (λ e. same w g (eqb-true (w .terms .tunnel) (v .terms .tunnel) e)) (λ e. apart e) (cases (eqb (w .terms .tunnel) (v .terms .tunnel)))
@@ -95,7 +96,7 @@ only vs once v f = go (choose vs) refl
         apart : eqb (w .terms .tunnel) (v .terms .tunnel) ≡ false → w ≡ v
         apart e =
             clash
-            (sym (total (w .terms) (v .terms) (λ q. clash (sym (eq-eqb (w .terms .tunnel) (v .terms .tunnel) q) ∙ e)) (no-more w v g f)) ∙ no-more v w f g)
+            (sym (total (w .terms) (v .terms) (λ q. clash (sym (eq-eqb (w .terms .tunnel) (v .terms .tunnel) q) ∙ e)) (neither w v g f)) ∙ neither v w f g)
 
     go : (o : Option Vcpu) → choose vs ≡ o → choose vs ≡ some v
     go none e =

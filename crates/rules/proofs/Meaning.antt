@@ -17,7 +17,7 @@ use Rattle.rules.specs.Choose.{ready, choose, runs, usableOf}
 use Rattle.rules.specs.Timer.{returns, earliest, runnable, timer}
 use Rattle.rules.specs.Refuse.{Refusal, refusal}
 use Rattle.rules.specs.Turn.{Call, turn, settled}
-use Rattle.rules.specs.Meaning.{MayRun, Returns, NoneBefore, TimerWhile, Sorted, Meaning}
+use Rattle.rules.specs.Meaning.{MayRun, Returns, NoneBefore, Runnable, TimerWhile, Sorted, Meaning}
 use Rattle.rules.specs.History.{after, past}
 use Rattle.rules.specs.Stays.{stays}
 use Rattle.rules.proofs.Tests.{clash, no-some, cases}
@@ -71,7 +71,7 @@ not-found t (w ∷ vs) e = go (named t w) refl e (λ f. not-found t vs f)
     go true n f ih = no-some (sym f)
     go false n f ih = (n, ih f)
 
-rising-all : (low high : ℕ) (q : List Entry) → Rising low high q → All (λ e. low ≤ e .due) q
+pub rising-all : (low high : ℕ) (q : List Entry) → Rising low high q → All (λ e. low ≤ e .due) q
 rising-all low high [] r = tt
 rising-all low high (e ∷ q) r = (r .0, all-imp (λ f h. omega (arith, r .0)) q (rising-all (e .due) high q (r .2)))
 
@@ -116,7 +116,7 @@ module _ (c : Card) (s : Settled c) (once : (t : ℕ) → count (named t) (c .vc
   idle-there : All (λ v. v .runnable ≡ true → v .usable ≡ 0) (c .vcpus) → c .running ≡ none
   idle-there h = s .runs-chosen ∙ ap runs (nobody (c .vcpus) (all-imp unready (c .vcpus) h))
 
-  idle-timer-says : c .running ≡ none → (t : ℕ) → c .timer ≡ some t → Returns runnable (c .vcpus) t × NoneBefore runnable (c .vcpus) t
+  idle-timer-says : c .running ≡ none → (t : ℕ) → c .timer ≡ some t → Returns Runnable (c .vcpus) t × NoneBefore Runnable (c .vcpus) t
   idle-timer-says e t f =
       in-idle (c .last) (c .vcpus) t (sym (ap (timer (c .last) (c .vcpus)) (idle-chosen e)) ∙ sym (s .timer-set) ∙ f)
 

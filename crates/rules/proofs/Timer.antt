@@ -8,13 +8,14 @@ use mathlib.Core.Option.{Option, none, some}
 use Prim.Native.Nat.{ℕ, _+_, _<_, _≤_, min}
 use native.Mathlib.Omega.{arith}
 use Rattle.rules.specs.Lists.{keep, All, Among}
-use Rattle.rules.specs.Vcpu.{Entry, Vcpu}
+use Rattle.rules.specs.Vcpu.{Entry, Vcpu, moreUrgent}
 use Rattle.rules.specs.Timer.{earlier, earliest, returns, runnable, above, timer}
 use lib.Dec.{leb}
-use Rattle.rules.specs.Meaning.{Returns, NoneBefore, TimerWhile}
+use Rattle.rules.specs.Meaning.{Returns, NoneBefore, Runnable, Above, TimerWhile}
 use borrow.Author.Tests.{leb-true, leb-false}
-use Rattle.rules.proofs.Tests.{no-some, cases}
+use Rattle.rules.proofs.Tests.{no-some, cases, and-true}
 use Rattle.rules.proofs.Lists.{all-imp, among-keep, all-kept}
+use Rattle.rules.proofs.Urgency.{before, urgent}
 
 earliest-none : (ts : List ℕ) → earliest ts ≡ none → ts ≡ []
 earliest-none [] e = refl
@@ -90,12 +91,12 @@ none-returns (v ∷ l) h = go (v .pending) refl h (λ e. none-returns l e)
 
 -- the earliest pending return of those that pass the test, where there is one
 earliest-return : (test : Vcpu → Bool) (vs : List Vcpu) (t : ℕ) → earliest (returns (keep test vs)) ≡ some t
-    → Returns test vs t × NoneBefore test vs t
+    → Returns (λ w. test w ≡ true) vs t × NoneBefore (λ w. test w ≡ true) vs t
 earliest-return test vs t e =
     let p = earliest-says (returns (keep test vs)) t e in
     let q = among-returns (keep test vs) t (p .0) in
     let r = among-keep test vs (q .0) (q .2) in (
-      record { who = q .0; which = q .1; on-card = r .0; passes = r .1; pends = q .3; then = q .4 },
+      record { who = q .0; which = q .1; on-card = r .0; is-such = r .1; pends = q .3; then = q .4 },
       all-kept (λ w. All (λ e. t ≤ e .due) (w .pending)) test vs (all-returns (keep test vs) t (p .1)),
     )
 
@@ -106,13 +107,13 @@ no-return test vs e =
     all-kept (λ w. w .pending ≡ []) test vs (none-returns (keep test vs) (earliest-none (returns (keep test vs)) e))
 
 -- "In idle: the earliest pending return of any runnable VCPU"
-pub in-idle : (now : ℕ) (vs : List Vcpu) (t : ℕ) → timer now vs none ≡ some t → Returns runnable vs t × NoneBefore runnable vs t
+pub in-idle : (now : ℕ) (vs : List Vcpu) (t : ℕ) → timer now vs none ≡ some t → Returns Runnable vs t × NoneBefore Runnable vs t
 unfolding timer
 in-idle now vs t e = earliest-return runnable vs t e
 
 -- of a moment `a` and the returns of those that pass a test, where that is the test that step 5 names
 earlier-says : (now : ℕ) (vs : List Vcpu) (v : Vcpu) (a : ℕ) (test : Vcpu → Bool) → a ≡ now + v .usable
-    → ((w : Vcpu) → above v w ≡ true → test w ≡ true) → ((w : Vcpu) → test w ≡ true → above v w ≡ true)
+    → ((w : Vcpu) → Above v w → test w ≡ true) → ((w : Vcpu) → test w ≡ true → Above v w)
     → TimerWhile now vs v (earlier a (earliest (returns (keep test vs))))
 earlier-says now vs v a test e f g = go (earliest (returns (keep test vs))) refl
   where
@@ -131,12 +132,28 @@ earlier-says now vs v a test e f g = go (earliest (returns (keep test vs))) refl
           one-of-them = ⊎-elim (λ q. inl (omega (arith, leb-true a u q))) (λ q. inr (later (leb-false a u q) (p .0))) (cases (leb a u));
         }
       where
-        later : u < a → Returns test vs u → Returns (above v) vs (min a u)
+        later : u < a → Returns (λ w. test w ≡ true) vs u → Returns (Above v) vs (min a u)
         later h r =
             let m : min a u ≡ u = omega arith in
-            record { who = r .who; which = r .which; on-card = r .on-card; passes = g (r .who) (r .passes); pends = r .pends; then = m ∙ r .then }
+            record {
+              who = r .who;
+              which = r .which;
+              on-card = r .on-card;
+              is-such = g (r .who) (r .is-such);
+              pends = r .pends;
+              then = m ∙ r .then;
+            }
+
+-- "any runnable VCPU more urgent than it"
+above-says : (v w : Vcpu) → above v w ≡ true → Above v w
+above-says v w e =
+    let p = and-true (w .runnable) (moreUrgent (w .terms) (v .terms)) e in
+    (p .0, before (w .terms) (v .terms) (p .1))
+
+is-above : (v w : Vcpu) → Above v w → above v w ≡ true
+is-above v w p = rw (p .0, urgent (w .terms) (v .terms) (p .1))
 
 -- "The earlier of `now` + the chosen one's usable ticks and the earliest pending return of any runnable VCPU more urgent than it."
 pub while-running : (now : ℕ) (vs : List Vcpu) (v : Vcpu) → (t : ℕ) × (timer now vs (some v) ≡ some t) × TimerWhile now vs v t
 unfolding timer
-while-running now vs v = (_, refl, earlier-says now vs v _ _ (omega arith) (λ w e. e) (λ w e. e))
+while-running now vs v = (_, refl, earlier-says now vs v _ _ (omega arith) (is-above v) (above-says v))

@@ -1,6 +1,6 @@
 -- "Smaller is more urgent; at equal priority the smaller identifier is" is a strict order, total on different identifiers.
 -- Assumes nothing.
-use mathlib.Core.Path.{_≡_, refl, sym}
+use mathlib.Core.Path.{_≡_, refl, sym, _∙_}
 use mathlib.Core.Bool.{true, false, _&&_}
 use mathlib.Core.Logic.{_⊎_, inl, inr, ⊎-elim}
 use Prim.Native.Nat.{_≤_, _<_}
@@ -8,16 +8,14 @@ use native.Mathlib.Omega.{arith}
 use lib.Dec.{ltb, eqb}
 use borrow.Author.Tests.{ltb-true, ltb-false, eqb-true, eqb-false, lt-ltb, le-ltb, eq-eqb, ne-eqb}
 use Rattle.rules.specs.Vcpu.{Description, moreUrgent}
-use Rattle.rules.proofs.Tests.{cases, and-true, and-false, or-true, or-false, or-right}
+use Rattle.rules.specs.Meaning.{MoreUrgent}
+use Rattle.rules.proofs.Tests.{clash, cases, and-true, and-false, or-true, or-false, or-right}
 
--- what the test says where it passes, and where it does not
-abbrev pub Before : Description → Description → Type 0
-Before a b = (a .priority < b .priority) ⊎ ((a .priority ≡ b .priority) × (a .tunnel < b .tunnel))
-
+-- what the test says where it does not pass
 abbrev pub NotBefore : Description → Description → Type 0
 NotBefore a b = (b .priority < a .priority) ⊎ ((b .priority ≡ a .priority) × (b .tunnel ≤ a .tunnel))
 
-pub before : (a b : Description) → moreUrgent a b ≡ true → Before a b
+pub before : (a b : Description) → moreUrgent a b ≡ true → MoreUrgent a b
 unfolding moreUrgent
 before a b e = ⊎-elim (λ f. inl (ltb-true _ _ f)) (λ f. inr (both (and-true _ _ f))) (or-true _ _ e)
   where
@@ -40,7 +38,7 @@ not-before a b e = go (or-false _ _ e)
         same : ltb (a .tunnel) (b .tunnel) ≡ false → NotBefore a b
         same f = ⊎-elim (λ h. inr (sym (eqb-true _ _ h), ltb-false _ _ f)) apart (cases (eqb (a .priority) (b .priority)))
 
-pub urgent : (a b : Description) → Before a b → moreUrgent a b ≡ true
+pub urgent : (a b : Description) → MoreUrgent a b → moreUrgent a b ≡ true
 unfolding moreUrgent
 urgent a b (inl h) = rw (lt-ltb (a .priority) (b .priority) h)
 urgent a b (inr p) = rw (eq-eqb (a .priority) (b .priority) (p .0), lt-ltb (a .tunnel) (b .tunnel) (p .1)) (or-right (ltb (a .priority) (b .priority)))
@@ -53,20 +51,27 @@ not-urgent a b (inr p) =
     let e : a .priority ≡ b .priority = sym (p .0) in
     rw (le-ltb (a .priority) (b .priority) (omega arith), eq-eqb (a .priority) (b .priority) e, le-ltb (a .tunnel) (b .tunnel) (p .1))
 
+-- the same in plain facts
+pub not-more : (a b : Description) → moreUrgent a b ≡ false → MoreUrgent a b → ⊥
+not-more a b e h = clash (sym (urgent a b h) ∙ e)
+
+pub no-more : (a b : Description) → (MoreUrgent a b → ⊥) → moreUrgent a b ≡ false
+no-more a b n = ⊎-elim (λ e. absurd (n (before a b e))) (λ e. e) (cases (moreUrgent a b))
+
 pub irreflexive : (a : Description) → moreUrgent a a ≡ false
 irreflexive a = not-urgent a a (inr (refl, omega arith))
 
 pub asymmetric : (a b : Description) → moreUrgent a b ≡ true → moreUrgent b a ≡ false
 asymmetric a b e = go (before a b e)
   where
-    go : Before a b → moreUrgent b a ≡ false
+    go : MoreUrgent a b → moreUrgent b a ≡ false
     go (inl h) = not-urgent b a (inl h)
     go (inr p) = not-urgent b a (inr (p .0, omega arith))
 
 pub transitive : (a b c : Description) → moreUrgent a b ≡ true → moreUrgent b c ≡ true → moreUrgent a c ≡ true
 transitive a b c e f = urgent a c (go (before a b e) (before b c f))
   where
-    go : Before a b → Before b c → Before a c
+    go : MoreUrgent a b → MoreUrgent b c → MoreUrgent a c
     go (inl h) (inl k) = inl (omega arith)
     go (inl h) (inr k) = inl (omega arith)
     go (inr h) (inl k) = inl (omega arith)
@@ -86,6 +91,6 @@ still-not a b c e f = not-urgent a c (go (not-before a b e) (not-before b c f))
 pub total : (a b : Description) → (a .tunnel ≡ b .tunnel → ⊥) → moreUrgent a b ≡ false → moreUrgent b a ≡ true
 total a b n e = urgent b a (go (not-before a b e))
   where
-    go : NotBefore a b → Before b a
+    go : NotBefore a b → MoreUrgent b a
     go (inl h) = inl h
     go (inr p) = inr (p .0, omega arith)

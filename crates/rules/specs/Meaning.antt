@@ -2,43 +2,54 @@
 -- Proved of the card after any calls in proofs/Meaning. Assumes nothing.
 use Prim.Native.Nat.{ℕ, _+_, _≤_, _<_}
 use mathlib.Core.Path.{_≡_}
-use mathlib.Core.Bool.{Bool, true, false}
+use mathlib.Core.Bool.{true, false}
 use mathlib.Core.List.{List, [], _∷_}
 use mathlib.Core.Logic.{_⊎_, _↔_}
 use mathlib.Core.Option.{none, some}
+use lib.Dec.{eqb}
 use lib.ListN.{length}
 use Rattle.rules.specs.Limits.{largestTime, largestTunnel, largestPeriod, mostVcpus, mostPending}
 use Rattle.rules.specs.Lists.{count, sum, All, Among}
-use Rattle.rules.specs.Vcpu.{Description, Entry, Vcpu, moreUrgent, named}
+use Rattle.rules.specs.Vcpu.{Description, Entry, Vcpu}
 use Rattle.rules.specs.Card.{Card, onCard, find}
-use Rattle.rules.specs.Timer.{runnable, above}
 use Rattle.rules.specs.Turn.{report}
+
+-- "smaller is more urgent; at equal priority the smaller identifier is"
+abbrev pub MoreUrgent : Description → Description → Type 0
+MoreUrgent a b = (a .priority < b .priority) ⊎ ((a .priority ≡ b .priority) × (a .tunnel < b .tunnel))
 
 -- `v` may run: it is on the card, runnable, with usable ticks, and no such VCPU is more urgent
 pub record MayRun (vs : List Vcpu) (v : Vcpu) : Type 0 where
   pub on-card : Among v vs
   pub runnable : v .runnable ≡ true
   pub has-ticks : 0 < v .usable
-  pub most-urgent : All (λ w. w .runnable ≡ true → 0 < w .usable → moreUrgent (w .terms) (v .terms) ≡ false) vs
+  pub most-urgent : All (λ w. w .runnable ≡ true → 0 < w .usable → MoreUrgent (w .terms) (v .terms) → ⊥) vs
 
--- the moment is the time of a pending return of a VCPU that passes the test
-pub record Returns (test : Vcpu → Bool) (vs : List Vcpu) (t : ℕ) : Type 0 where
+-- the moment is the time of a pending return of such a VCPU
+pub record Returns (Such : Vcpu → Type 0) (vs : List Vcpu) (t : ℕ) : Type 0 where
   pub who : Vcpu
   pub which : Entry
   pub on-card : Among who vs
-  pub passes : test who ≡ true
+  pub is-such : Such who
   pub pends : Among which (who .pending)
   pub then : t ≡ which .due
 
--- no VCPU that passes the test has a pending return before the moment
-abbrev pub NoneBefore : (Vcpu → Bool) → List Vcpu → ℕ → Type 0
-NoneBefore test vs t = All (λ w. test w ≡ true → All (λ e. t ≤ e .due) (w .pending)) vs
+-- no such VCPU has a pending return before the moment
+abbrev pub NoneBefore : (Vcpu → Type 0) → List Vcpu → ℕ → Type 0
+NoneBefore Such vs t = All (λ w. Such w → All (λ e. t ≤ e .due) (w .pending)) vs
+
+abbrev pub Runnable : Vcpu → Type 0
+Runnable w = w .runnable ≡ true
+
+-- "any runnable VCPU more urgent than it"
+abbrev pub Above : Vcpu → Vcpu → Type 0
+Above v w = Runnable w × MoreUrgent (w .terms) (v .terms)
 
 -- "The earlier of `now` + the chosen one's usable ticks and the earliest pending return of any runnable VCPU more urgent than it."
 pub record TimerWhile (now : ℕ) (vs : List Vcpu) (v : Vcpu) (t : ℕ) : Type 0 where
   pub in-time : t ≤ now + v .usable
-  pub before-returns : NoneBefore (above v) vs t
-  pub one-of-them : (t ≡ now + v .usable) ⊎ Returns (above v) vs t
+  pub before-returns : NoneBefore (Above v) vs t
+  pub one-of-them : (t ≡ now + v .usable) ⊎ Returns (Above v) vs t
 
 -- "Numbers of the card"
 pub record InRange (d : Description) : Type 0 where
@@ -66,12 +77,12 @@ pub record Meaning (c : Card) : Type 0 where
   -- "if there is none, idle. In idle: the earliest pending return of any runnable VCPU."
   pub idle : c .running ≡ none ↔ All (λ v. v .runnable ≡ true → v .usable ≡ 0) (c .vcpus)
   pub idle-timer : c .running ≡ none → (t : ℕ) → c .timer ≡ some t
-      → Returns runnable (c .vcpus) t × NoneBefore runnable (c .vcpus) t
+      → Returns Runnable (c .vcpus) t × NoneBefore Runnable (c .vcpus) t
   -- "If nobody is runnable, there is no timer."
   pub no-timer : c .timer ≡ none ↔ All (λ v. v .runnable ≡ false) (c .vcpus)
   -- nobody runs who is not on the card, and an identifier stands there at most once
   pub runs-on-card : (tunnel : ℕ) → c .running ≡ some tunnel → OnTheCard (c .vcpus) tunnel
-  pub once : (tunnel : ℕ) → count (named tunnel) (c .vcpus) ≤ 1
+  pub once : (tunnel : ℕ) → count (λ v. eqb (v .terms .tunnel) tunnel) (c .vcpus) ≤ 1
   -- the rules look an identifier up, all 24 bits of it
   pub on-card : (tunnel : ℕ) → onCard tunnel (c .vcpus) ≡ true ↔ OnTheCard (c .vcpus) tunnel
   pub finds : (tunnel : ℕ) (v : Vcpu) → find tunnel (c .vcpus) ≡ some v ↔ (Among v (c .vcpus) × (v .terms .tunnel ≡ tunnel))
