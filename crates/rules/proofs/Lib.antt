@@ -1,9 +1,10 @@
--- The theorems about the rules (Demand3, Meaning, Rows, Marks), computed examples (Case, Examples, HeadEntry), and the laws that carry
+-- The theorems about the rules (Demand3, Meaning, Rows, Marks, Budgets), computed examples (Case, Examples, HeadEntry), and the laws that carry
 -- them. Assumes nothing.
 pub mod Demand3
 pub mod Meaning
 pub mod Rows
 pub mod Marks
+pub mod Budgets
 pub mod Case
 pub mod Examples
 pub mod HeadEntry

@@ -15,8 +15,8 @@ pub data Change : Type 0 where
   remove : ℕ → Change
   tick : Change
 
--- A newcomer's place in the list is before the first that is less urgent. No rule depends on the list's order: what proofs/Meaning,
--- proofs/Rows and proofs/Marks show of steps 3 to 5 and of the refusals speaks of who is among the VCPUs, never of their places.
+-- A newcomer's place in the list is before the first that is less urgent. No rule depends on the list's order: what proofs/Budgets,
+-- Marks, Meaning and Rows show of the five steps and of the refusals speaks of who is among the VCPUs, never of their places.
 abbrev pub placed : Vcpu → List Vcpu → List Vcpu
 placed v [] = v ∷ []
 placed v (w ∷ ws) = cond (moreUrgent (v .terms) (w .terms)) (v ∷ w ∷ ws) (w ∷ placed v ws)

@@ -1,7 +1,7 @@
 -- Document 01's rules for turns, one file a concern, in the order of the document: the numbers of the card (Limits), words on lists
 -- (Lists), a VCPU (Vcpu), the card (Card), the five steps of an accepted call (Charge, Return, Change, Choose, Timer), the refusals
--- (Refuse), the calls and their replies (Turn); then what these mean in plain facts (Meaning, Rows, Marks), and what demand 3 speaks
--- of (History, Stays, Slices, Demand3). Moments, amounts and identifiers are plain numbers here. Assumes nothing.
+-- (Refuse), the calls and their replies (Turn); then what these mean in plain facts (Meaning, Rows, Marks, Budgets), and what demand 3
+-- speaks of (History, Stays, Slices, Demand3). Moments, amounts and identifiers are plain numbers here. Assumes nothing.
 pub mod Limits
 pub mod Lists
 pub mod Vcpu
@@ -16,6 +16,7 @@ pub mod Turn
 pub mod Meaning
 pub mod Rows
 pub mod Marks
+pub mod Budgets
 pub mod History
 pub mod Stays
 pub mod Slices

@@ -1,0 +1,61 @@
+-- Document 01, steps 1 and 2, as plain facts of a VCPU before and after an accepted call: whether it is charged and with how many
+-- ticks, how these are posted, and what returns. Proved of any calls in proofs/Budgets. Assumes nothing.
+use Prim.Native.Nat.{ℕ, _+_, _-_, _≤_, _<_}
+use mathlib.Core.Path.{_≡_}
+use mathlib.Core.List.{List, [], _∷_, _++_}
+use mathlib.Core.Option.{some}
+use lib.ListN.{length}
+use Rattle.rules.specs.Limits.{mostPending}
+use Rattle.rules.specs.Lists.{sum, All, Among}
+use Rattle.rules.specs.Vcpu.{Entry, Vcpu}
+use Rattle.rules.specs.Card.{Card}
+use Rattle.rules.specs.Change.{remove}
+use Rattle.rules.specs.Turn.{Call}
+use Rattle.rules.specs.Rows.{AdmitOf}
+
+-- "In idle nobody is charged. Otherwise the VCPU that held the core loses `now - last` usable ticks."
+pub data Loses (c : Card) (now : ℕ) (v : Vcpu) : ℕ → Type 0 where
+  held : c .running ≡ some (v .terms .tunnel) → Loses c now v (now - c .last)
+  not-held : (c .running ≡ some (v .terms .tunnel) → ⊥) → Loses c now v 0
+
+-- "its previous use ended exactly at `last` and its queue isn't empty"
+abbrev pub Joins : ℕ → Vcpu → Type 0
+Joins last v = (v .ended ≡ last) × (v .pending ≡ [] → ⊥)
+
+-- the queue of `v`, charged with `ticks` since `last`, before the returns
+pub data Posted (last ticks : ℕ) (v : Vcpu) : List Entry → Type 0 where
+  -- "If that is 0, nothing else happens here."
+  nothing : ticks ≡ 0 → Posted last ticks v (v .pending)
+  -- "Otherwise they become a pending return due at `last + T`, with two exceptions."
+  new : 0 < ticks → (Joins last v → ⊥) → length (v .pending) < mostPending
+      → Posted last ticks v (v .pending ++ record { due = last + v .terms .period; amount = ticks } ∷ [])
+  -- "the amount joins the queue's last entry, whose time stays"
+  joined : (front : List Entry) (e : Entry) → 0 < ticks → Joins last v → v .pending ≡ front ++ e ∷ []
+      → Posted last ticks v (front ++ record { due = e .due; amount = e .amount + ticks } ∷ [])
+  -- "Else, if 8 are pending, it folds: the amount joins the last entry, whose time becomes `last + T`."
+  folded : (front : List Entry) (e : Entry) → 0 < ticks → (Joins last v → ⊥) → length (v .pending) ≡ mostPending
+      → v .pending ≡ front ++ e ∷ []
+      → Posted last ticks v (front ++ record { due = last + v .terms .period; amount = e .amount + ticks } ∷ [])
+
+-- `v` before an accepted call at `now`, and `w`, the same VCPU after it; `back` is what returns
+pub record Budget (c : Card) (now : ℕ) (v w : Vcpu) : Type 0 where
+  pub same-terms : w .terms ≡ v .terms
+  pub ticks : ℕ
+  pub loses : Loses c now v ticks
+  pub has-them : ticks ≤ v .usable
+  -- "Its use now ends at `now`."
+  pub use-ends : 0 < ticks → w .ended ≡ now
+  pub no-use : ticks ≡ 0 → w .ended ≡ v .ended
+  -- "entries due at or before `now` leave the front of the queue and become usable. The others keep their order."
+  pub back : List Entry
+  pub posted : Posted (c .last) ticks v (back ++ w .pending)
+  pub are-due : All (λ e. e .due ≤ now) back
+  pub to-come : All (λ e. now < e .due) (w .pending)
+  pub usable : w .usable + ticks ≡ v .usable + sum (λ e. e .amount) back
+
+-- "For every VCPU": each that the call does not remove, and each that it did not admit
+pub record Budgets (c : Card) (call : Call) (new : List Vcpu) : Type 0 where
+  pub then : (v : Vcpu) → Among v (c .vcpus) → (call .asked ≡ remove (v .terms .tunnel) → ⊥)
+      → (w : Vcpu) × Among w new × Budget c (call .now) v w
+  pub was : (w : Vcpu) → Among w new → (AdmitOf (call .asked) (w .terms .tunnel) → ⊥)
+      → (v : Vcpu) × Among v (c .vcpus) × Budget c (call .now) v w
