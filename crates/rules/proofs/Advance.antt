@@ -1,13 +1,13 @@
 -- Steps 1 and 2 of an accepted call: d ticks pass, the one that held the core is charged, and what is due returns.
 -- Assumes that the ticks held are no more than the usable ones, and that who runs is on the card.
 use mathlib.Core.Path.{_≡_, refl, ap, sym, _∙_, subst}
-use mathlib.Core.Bool.{Bool, true, false, cond, not, _&&_, _||_}
+use mathlib.Core.Bool.{Bool, true, false, cond, _&&_, _||_}
 use mathlib.Core.List.{List, [], _∷_, map}
 use mathlib.Core.Logic.{_⊎_, ⊎-elim}
 use mathlib.Core.Option.{Option, none, some}
 use Prim.Native.Nat.{ℕ, suc, _+_, _-_, _≤_}
 use native.Mathlib.Omega.{arith}
-use lib.Dec.{eqb}
+use lib.Dec.{ltb, eqb}
 use lib.ListN.{length, length-map}
 use borrow.Author.Tests.{eq-eqb}
 use Rattle.rules.specs.Lists.{any, count, All, Among}
@@ -20,15 +20,18 @@ use Rattle.rules.specs.Refuse.{callRows}
 use Rattle.rules.specs.Turn.{afterReturn}
 use Rattle.rules.specs.Meaning.{OnTheCard}
 use Rattle.rules.specs.History.{ticks, holds, isIdle}
-use Rattle.rules.specs.Stays.{Stay, lasts, lastsAs, foldsAt, withFold, owns, held, EachTick, owners}
-use Rattle.rules.proofs.Tests.{clash, cases, and-true, or-false}
+use Rattle.rules.specs.Stays.{Stay, lasts, lastsAs, owns, held, EachTick, owners}
+use Rattle.rules.specs.Slices.{slices, everFolds}
+use Rattle.rules.specs.Demand3.{hasToFold, foldsAt}
+use Rattle.rules.proofs.Tests.{tests, cases, and-true, or-none}
 use Rattle.rules.proofs.Named.{named-says, is-named}
-use Rattle.rules.proofs.Lists.{all-imp, all-map, all-map-both, all-map-among, all-among, any-among, any-same, some-one, count-same, count-among, count-none, length-ticks}
-use Rattle.rules.proofs.Queue.{Rising}
+use Rattle.rules.proofs.Lists.{all-imp, all-both, all-map-both, all-map-among, all-among, among-all, any-same, any-only, some-one, count-same, count-among, count-none, length-ticks}
+use Rattle.rules.proofs.Slices.{slices-idle}
+use Rattle.rules.proofs.Queue.{Rising, has-to-fold}
 use Rattle.rules.proofs.Sound.{Sound, kept-charged, sound-returned}
-use Rattle.rules.proofs.Tied.{Tied, tied-return, tied-folded, tied-idle, tied-charged, within-charged}
+use Rattle.rules.proofs.Tied.{Tied, tied-return, tied-idle, tied-charged, within-charged, folds-there}
 use Rattle.rules.proofs.Window.{Within, within-idle}
-use Rattle.rules.proofs.Held.{Dated, length-held, held-fold, owns-now, held-more, each-imp, each-more}
+use Rattle.rules.proofs.Held.{Dated, length-held, owns-now, held-more, each-more}
 use Rattle.rules.proofs.Lawful.{Pair, Paired, Bounded, Lawful}
 
 -- what steps 1 and 2 do to one VCPU
@@ -84,6 +87,10 @@ rows-stepped c now asked = rw (each-stepped c now) (go asked)
     go (remove t) = rw (there t)
     go tick = refl
 
+-- the history says that the queue had to fold in this stay
+abbrev pub says : Stay → List (Option ℕ) → Bool
+says s h = everFolds (s .terms .period) (slices (s .terms .period) (held s h))
+
 module _ (c : Card) (d : ℕ) (ss : List Stay) (h : List (Option ℕ)) (l : Lawful (c .last) (c .vcpus) ss h)
     (pace : All (λ v. holds (v .terms .tunnel) (c .running) ≡ true → d ≤ v .usable) (c .vcpus))
     (there : (t : ℕ) → c .running ≡ some t → count (named t) (c .vcpus) ≡ 1) where
@@ -108,44 +115,24 @@ module _ (c : Card) (d : ℕ) (ss : List Stay) (h : List (Option ℕ)) (l : Lawf
 
   -- the ticks of a stay that lasts: all d, or none
   held-step : (s : Stay) (b : Bool) → Dated (c .last) s → lasts (s .until) ≡ true → holds (s .terms .tunnel) (c .running) ≡ b
-      → held (withFold c (c .last + d) s) (ticks d (c .running) h) ≡ ticks d b (held s h)
+      → held s (ticks d (c .running) h) ≡ ticks d b (held s h)
   held-step s b g u e =
-      held-fold c (c .last + d) s (ticks d (c .running) h)
-      ∙ held-more s (c .running) (c .last) d h g (omega (arith, l .long))
+      held-more s (c .running) (c .last) d h g (omega (arith, l .long))
       ∙ ap (λ (x : Bool). ticks d x (held s h)) (rw (u, e))
 
   -- a VCPU before its return, and what ties it to its stay
-  pair-return : (s : Stay) (b f : Bool) (w : Vcpu) (low high : ℕ) → w .terms ≡ s .terms → Rising low high (w .pending)
-      → held (withFold c (c .last + d) s) (ticks d (c .running) h) ≡ ticks d b (held s h)
-      → (withFold c (c .last + d) s .folded ≡ false → f ≡ false)
-      → Tied (w .terms .period) (c .last + d) (w .ended) (w .pending) (ticks d b (held s h)) f
-      → Pair (c .last + d) (withFold c (c .last + d) s) (returned (c .last + d) w) (ticks d (c .running) h)
-  pair-return s b f w low high e r g i t =
+  pair-return : (s : Stay) (b : Bool) (w : Vcpu) (low high : ℕ) → w .terms ≡ s .terms → Rising low high (w .pending)
+      → held s (ticks d (c .running) h) ≡ ticks d b (held s h)
+      → Tied (w .terms .period) (c .last + d) (w .ended) (w .pending) (ticks d b (held s h))
+      → Pair (c .last + d) s (returned (c .last + d) w) (ticks d (c .running) h)
+  pair-return s b w low high e r g t =
       record {
         same-terms = e;
-        tied = rw g
-            (tied-folded (w .terms .period) (c .last + d) (w .ended) _ (ticks d b (held s h)) f (withFold c (c .last + d) s .folded) i
-            (tied-return (w .terms .period) (c .last + d) (w .ended) low high (w .pending) (ticks d b (held s h)) f r t));
+        tied = rw g (tied-return (w .terms .period) (c .last + d) (w .ended) low high (w .pending) (ticks d b (held s h)) r t);
       }
 
-  -- where the call makes its queue fold, the stay says so
-  fold-said : (s : Stay) (v : Vcpu) → Among v (c .vcpus) → v .terms .tunnel ≡ s .terms .tunnel → lasts (s .until) ≡ true
-      → holds (s .terms .tunnel) (c .running) ≡ true → withFold c (c .last + d) s .folded ≡ false
-      → s .folded || (not (noTicks (c .last) (c .last + d)) && folds (c .last) v) ≡ false
-  fold-said s v m e u r f =
-      let p = or-false (s .folded) (lasts (s .until) && foldsAt c (c .last + d) (s .terms .tunnel)) f in
-      rw (p .0)
-      (⊎-elim (λ y. clash (sym (all-true y) ∙ p .1)) (λ y. y) (cases (not (noTicks (c .last) (c .last + d)) && folds (c .last) v)))
-    where
-      all-true : not (noTicks (c .last) (c .last + d)) && folds (c .last) v ≡ true → lasts (s .until) && foldsAt c (c .last + d) (s .terms .tunnel) ≡ true
-      all-true y =
-          let q = and-true (not (noTicks (c .last) (c .last + d))) (folds (c .last) v) y in
-          let a : any (λ v. named (s .terms .tunnel) v && folds (c .last) v) (c .vcpus) ≡ true =
-          any-among (λ v. named (s .terms .tunnel) v && folds (c .last) v) (c .vcpus) v m (rw (is-named (s .terms .tunnel) v e, q .1)) in
-          rw (u, r, q .0, a)
-
   pair-step : (s : Stay) (v : Vcpu) → Dated (c .last) s → lasts (s .until) ≡ true → Among v (c .vcpus) → v .terms .tunnel ≡ s .terms .tunnel
-      → Pair (c .last) s v h → Pair (c .last + d) (withFold c (c .last + d) s) (step v) (ticks d (c .running) h)
+      → Pair (c .last) s v h → Pair (c .last + d) s (step v) (ticks d (c .running) h)
   pair-step s v g u m e p = ⊎-elim ran waited (cases (holds (v .terms .tunnel) (c .running)))
     where
       n : length (held s h) ≡ c .last
@@ -155,32 +142,31 @@ module _ (c : Card) (d : ℕ) (ss : List Stay) (h : List (Option ℕ)) (l : Lawf
       sv = all-among (Sound (c .last)) (c .vcpus) (l .sound) v m
 
       ran : holds (v .terms .tunnel) (c .running) ≡ true
-          → Pair (c .last + d) (withFold c (c .last + d) s) (stepped (c .last) (c .last + d) (c .running) v) (ticks d (c .running) h)
+          → Pair (c .last + d) s (stepped (c .last) (c .last + d) (c .running) v) (ticks d (c .running) h)
       ran r =
           let k = all-among (λ v. holds (v .terms .tunnel) (c .running) ≡ true → d ≤ v .usable) (c .vcpus) pace v m r in
           let r′ : holds (s .terms .tunnel) (c .running) ≡ true = subst (λ (t : ℕ). holds t (c .running) ≡ true) e r in
-          let w = charged (c .last) (c .last + d) v in
           let tw : charged (c .last) (c .last + d) v .terms ≡ v .terms = terms-charged (c .last) (c .last + d) v in
           rw r
-          (pair-return s true (s .folded || (not (noTicks (c .last) (c .last + d)) && folds (c .last) v)) (charged (c .last) (c .last + d) v)
+          (pair-return s true (charged (c .last) (c .last + d) v)
           (suc (c .last)) (c .last + v .terms .period) (tw ∙ p .same-terms) (kept-charged (c .last) d v k sv .order)
-          (held-step s true g u r′) (fold-said s v m e u r′)
-          (rw tw (tied-charged (c .last) d v (held s h) (s .folded) n sv k (p .tied))))
+          (held-step s true g u r′)
+          (rw tw (tied-charged (c .last) d v (held s h) n sv k (p .tied))))
 
       waited : holds (v .terms .tunnel) (c .running) ≡ false
-          → Pair (c .last + d) (withFold c (c .last + d) s) (stepped (c .last) (c .last + d) (c .running) v) (ticks d (c .running) h)
+          → Pair (c .last + d) s (stepped (c .last) (c .last + d) (c .running) v) (ticks d (c .running) h)
       waited r =
           let r′ : holds (s .terms .tunnel) (c .running) ≡ false = subst (λ (t : ℕ). holds t (c .running) ≡ false) e r in
           rw r
-          (pair-return s false (s .folded) v (suc (c .last)) (c .last + v .terms .period) (p .same-terms) (sv .order)
-          (held-step s false g u r′) (λ f. or-false (s .folded) (lasts (s .until) && foldsAt c (c .last + d) (s .terms .tunnel)) f .0)
-          (tied-idle (v .terms .period) (c .last) d (v .ended) (v .pending) (held s h) (s .folded) (sv .used) (p .tied)))
+          (pair-return s false v (suc (c .last)) (c .last + v .terms .period) (p .same-terms) (sv .order)
+          (held-step s false g u r′)
+          (tied-idle (v .terms .period) (c .last) d (v .ended) (v .pending) (held s h) n (sv .used) (p .tied)))
 
   paired-step : (s : Stay) → Dated (c .last) s → Paired (c .last) (c .vcpus) h s
-      → Paired (c .last + d) (map step (c .vcpus)) (ticks d (c .running) h) (withFold c (c .last + d) s)
+      → Paired (c .last + d) (map step (c .vcpus)) (ticks d (c .running) h) s
   paired-step s g p u =
       all-map-among (λ v. v .terms .tunnel ≡ s .terms .tunnel → Pair (c .last) s v h)
-      (λ v. v .terms .tunnel ≡ s .terms .tunnel → Pair (c .last + d) (withFold c (c .last + d) s) v (ticks d (c .running) h)) step (c .vcpus)
+      (λ v. v .terms .tunnel ≡ s .terms .tunnel → Pair (c .last + d) s v (ticks d (c .running) h)) step (c .vcpus)
       (λ v m q e. pair-step s v g u m (same v e) (q (same v e))) (p u)
     where
       same : (v : Vcpu) → step v .terms .tunnel ≡ s .terms .tunnel → v .terms .tunnel ≡ s .terms .tunnel
@@ -194,53 +180,102 @@ module _ (c : Card) (d : ℕ) (ss : List Stay) (h : List (Option ℕ)) (l : Lawf
       let p = some-one (named (s .terms .tunnel)) (c .vcpus) k in
       (p .0, p .1, named-says (s .terms .tunnel) (p .0) (p .2))
 
-  bounded-step : (s : Stay) → Among s ss → Bounded h s → Bounded (ticks d (c .running) h) (withFold c (c .last + d) s)
+  its-pair : (s : Stay) (m : Among s ss) (u : lasts (s .until) ≡ true) → Pair (c .last) s (its-vcpu s m u .0) h
+  its-pair s m u =
+      let v = its-vcpu s m u in
+      all-among (λ v. v .terms .tunnel ≡ s .terms .tunnel → Pair (c .last) s v h) (c .vcpus)
+      (all-among (Paired (c .last) (c .vcpus) h) ss (l .paired) s m u) (v .0) (v .1) (v .2)
+
+  its-pace : (s : Stay) (m : Among s ss) (u : lasts (s .until) ≡ true) → holds (s .terms .tunnel) (c .running) ≡ true
+      → d ≤ its-vcpu s m u .0 .usable
+  its-pace s m u r =
+      let v = its-vcpu s m u in
+      all-among (λ v. holds (v .terms .tunnel) (c .running) ≡ true → d ≤ v .usable) (c .vcpus) pace (v .0) (v .1)
+      (subst (λ (t : ℕ). holds t (c .running) ≡ true) (sym (v .2)) r)
+
+  its-sound : (s : Stay) (m : Among s ss) (u : lasts (s .until) ≡ true) → Sound (c .last) (its-vcpu s m u .0)
+  its-sound s m u = all-among (Sound (c .last)) (c .vcpus) (l .sound) (its-vcpu s m u .0) (its-vcpu s m u .1)
+
+  bounded-step : (s : Stay) → Among s ss → Bounded h s → Bounded (ticks d (c .running) h) s
   bounded-step s m w = ⊎-elim here gone (cases (lasts (s .until)))
     where
       g : Dated (c .last) s
       g = all-among (Dated (c .last)) ss (l .dated) s m
 
-      gone : lasts (s .until) ≡ false → Bounded (ticks d (c .running) h) (withFold c (c .last + d) s)
+      gone : lasts (s .until) ≡ false → Bounded (ticks d (c .running) h) s
       gone u =
-          rw (held-fold c (c .last + d) s (ticks d (c .running) h), held-more s (c .running) (c .last) d h g (omega (arith, l .long)), u)
+          rw (held-more s (c .running) (c .last) d h g (omega (arith, l .long)), u)
           (within-idle (s .terms .period) (s .terms .capacity) d (held s h) w)
 
-      here : lasts (s .until) ≡ true → Bounded (ticks d (c .running) h) (withFold c (c .last + d) s)
+      here : lasts (s .until) ≡ true → Bounded (ticks d (c .running) h) s
       here u = ⊎-elim ran waited (cases (holds (s .terms .tunnel) (c .running)))
         where
-          waited : holds (s .terms .tunnel) (c .running) ≡ false → Bounded (ticks d (c .running) h) (withFold c (c .last + d) s)
+          waited : holds (s .terms .tunnel) (c .running) ≡ false → Bounded (ticks d (c .running) h) s
           waited r = rw (held-step s false g u r) (within-idle (s .terms .period) (s .terms .capacity) d (held s h) w)
 
-          ran : holds (s .terms .tunnel) (c .running) ≡ true → Bounded (ticks d (c .running) h) (withFold c (c .last + d) s)
+          ran : holds (s .terms .tunnel) (c .running) ≡ true → Bounded (ticks d (c .running) h) s
           ran r =
-              let v = its-vcpu s m u in
-              let p : Pair (c .last) s (v .0) h = all-among (λ v. v .terms .tunnel ≡ s .terms .tunnel → Pair (c .last) s v h) (c .vcpus)
-              (all-among (Paired (c .last) (c .vcpus) h) ss (l .paired) s m u) (v .0) (v .1) (v .2) in
-              let k : d ≤ v .0 .usable = all-among (λ v. holds (v .terms .tunnel) (c .running) ≡ true → d ≤ v .usable) (c .vcpus) pace (v .0) (v .1)
-              (subst (λ (t : ℕ). holds t (c .running) ≡ true) (sym (v .2)) r) in
               rw (held-step s true g u r)
-              (subst (λ x. Within (x .period) (x .capacity) (held s h) → Within (x .period) (x .capacity) (ticks d true (held s h))) (p .same-terms)
-              (within-charged (c .last) d (v .0) (held s h) (s .folded) (length-held s h ∙ l .long)
-              (all-among (Sound (c .last)) (c .vcpus) (l .sound) (v .0) (v .1)) k (p .tied)) w)
+              (subst (λ x. Within (x .period) (x .capacity) (held s h) → Within (x .period) (x .capacity) (ticks d true (held s h)))
+              (its-pair s m u .same-terms)
+              (within-charged (c .last) d (its-vcpu s m u .0) (held s h) (length-held s h ∙ l .long)
+              (its-sound s m u) (its-pace s m u r) (its-pair s m u .tied)) w)
 
-  owned-step : EachTick (λ o n. owners (map (withFold c (c .last + d)) ss) o n ≡ 1) (ticks d (c .running) h)
+  -- what the history says of folding grows by what the call does to the queue
+  pub folded-step : (s : Stay) → Among s ss → says s (ticks d (c .running) h) ≡ says s h || foldsAt c (c .last + d) s
+  folded-step s m = go (ltb (c .last) (c .last + d)) refl (owns s (c .running) (c .last)) refl
+    where
+      g : Dated (c .last) s
+      g = all-among (Dated (c .last)) ss (l .dated) s m
+
+      owned : (o : Bool) → owns s (c .running) (c .last) ≡ o → lasts (s .until) && holds (s .terms .tunnel) (c .running) ≡ o
+      owned o e = sym (owns-now s (c .running) (c .last) (c .last) g (omega arith)) ∙ e
+
+      ticked : (o : Bool) → owns s (c .running) (c .last) ≡ o
+          → says s (ticks d (c .running) h) ≡ everFolds (s .terms .period) (slices (s .terms .period) (ticks d o (held s h)))
+      ticked o e =
+          ap (λ (k : List Bool). everFolds (s .terms .period) (slices (s .terms .period) k))
+          (held-more s (c .running) (c .last) d h g (omega (arith, l .long)) ∙ ap (λ (b : Bool). ticks d b (held s h)) (owned o e))
+
+      ran : lasts (s .until) ≡ true → holds (s .terms .tunnel) (c .running) ≡ true → 1 ≤ d
+          → everFolds (s .terms .period) (slices (s .terms .period) (ticks d true (held s h)))
+          ≡ says s h || any (λ v. named (s .terms .tunnel) v && hasToFold (c .last) v) (c .vcpus)
+      ran u r k =
+          let v = its-vcpu s m u in
+          let a : any (λ v. named (s .terms .tunnel) v && hasToFold (c .last) v) (c .vcpus) ≡ folds (c .last) (v .0) =
+          any-only (named (s .terms .tunnel)) (hasToFold (c .last)) (c .vcpus) (l .once (s .terms .tunnel)) (v .0) (v .1)
+          (is-named (s .terms .tunnel) (v .0) (v .2)) ∙ has-to-fold (c .last) (v .0) in
+          rw a
+          (subst (λ x. everFolds (x .period) (slices (x .period) (ticks d true (held s h)))
+          ≡ everFolds (x .period) (slices (x .period) (held s h)) || folds (c .last) (v .0)) (its-pair s m u .same-terms)
+          (folds-there (c .last) d (v .0) (held s h) (length-held s h ∙ l .long) (its-sound s m u) (its-pace s m u r) (its-pair s m u .tied) k))
+
+      go : (n : Bool) → ltb (c .last) (c .last + d) ≡ n → (o : Bool) → owns s (c .running) (c .last) ≡ o
+          → says s (ticks d (c .running) h)
+          ≡ says s h || (n && o && any (λ v. named (s .terms .tunnel) v && hasToFold (c .last) v) (c .vcpus))
+      go false e o f =
+          let z : d ≡ 0 = omega (arith, tests) in
+          rw z (sym (or-none (says s h)))
+      go true e false f =
+          ticked false f ∙ ap (everFolds (s .terms .period)) (slices-idle (s .terms .period) d (held s h)) ∙ sym (or-none (says s h))
+      go true e true f =
+          let p = and-true (lasts (s .until)) (holds (s .terms .tunnel) (c .running)) (owned true f) in
+          ticked true f ∙ ran (p .0) (p .1) (omega (arith, tests))
+
+  owned-step : EachTick (λ o n. owners ss o n ≡ 1) (ticks d (c .running) h)
   owned-step =
       each-more _ d (c .running) h (λ n k. new (c .running) refl n (omega (arith, l .long)))
-      (each-imp (λ o n. owners ss o n ≡ 1) _ h (λ o n k e. ap (λ (x : ℕ). cond (isIdle o) 1 0 + x) (old o n) ∙ e) (l .owned))
+      (l .owned)
     where
-      old : (o : Option ℕ) (n : ℕ) → count (λ s. owns s o n) (map (withFold c (c .last + d)) ss) ≡ count (λ s. owns s o n) ss
-      old o n = count-same (λ s. owns s o n) (λ s. owns s o n) (withFold c (c .last + d)) ss (all-imp (λ s g. refl) ss (l .dated))
-
-      new : (o : Option ℕ) → c .running ≡ o → (n : ℕ) → c .last ≤ n → owners (map (withFold c (c .last + d)) ss) o n ≡ 1
-      new none e n k = rw (old none n) (omega (arith, count-none (λ s. owns s none n) ss (all-imp (λ s g. refl) ss (l .dated))))
-      new (some t) e n k =
-          omega (arith, old (some t) n, counted ss (l .dated), l .on-card t, there t e)
+      new : (o : Option ℕ) → c .running ≡ o → (n : ℕ) → c .last ≤ n → owners ss o n ≡ 1
+      new none e n k = omega (arith, count-none (λ s. owns s none n) ss (all-imp (λ s g. refl) ss (l .dated)))
+      new (some t) e n k = omega (arith, counted ss (l .dated), l .on-card t, there t e)
         where
           counted : (ss : List Stay) → All (Dated (c .last)) ss → count (λ s. owns s (some t) n) ss ≡ count (lastsAs t) ss
           counted [] g = refl
           counted (s ∷ ss) g = rw (owns-now s (some t) (c .last) n (g .0) k, counted ss (g .1))
 
-  pub advance : Lawful (c .last + d) (afterReturn c (c .last + d)) (map (withFold c (c .last + d)) ss) (ticks d (c .running) h)
+  pub advance : Lawful (c .last + d) (afterReturn c (c .last + d)) ss (ticks d (c .running) h)
   advance =
       rw (each-stepped c (c .last + d))
       (record {
@@ -248,10 +283,10 @@ module _ (c : Card) (d : ℕ) (ss : List Stay) (h : List (Option ℕ)) (l : Lawf
         once = λ t. omega (arith, same t, l .once t);
         few = omega (arith, length-map (c .vcpus) step, l .few);
         long = omega (arith, length-ticks d (c .running) h, l .long);
-        on-card = λ t. count-same (lastsAs t) (lastsAs t) (withFold c (c .last + d)) ss (all-imp (λ s g. refl) ss (l .dated)) ∙ l .on-card t ∙ sym (same t);
-        dated = all-map (Dated (c .last + d)) (withFold c (c .last + d)) (λ s g. record { began = omega (arith, g .began); over = λ r e. omega (arith, g .over r e) }) ss (l .dated);
-        paired = all-map-both (Paired (c .last + d) (map step (c .vcpus)) (ticks d (c .running) h)) (withFold c (c .last + d)) paired-step ss (l .dated) (l .paired);
-        bounded = all-map-among (Bounded h) (Bounded (ticks d (c .running) h)) (withFold c (c .last + d)) ss bounded-step (l .bounded);
+        on-card = λ t. l .on-card t ∙ sym (same t);
+        dated = all-imp (λ s g. record { began = omega (arith, g .began); over = λ r e. omega (arith, g .over r e) }) ss (l .dated);
+        paired = all-both paired-step ss (l .dated) (l .paired);
+        bounded = among-all _ ss (λ s m. bounded-step s m (all-among (Bounded h) ss (l .bounded) s m));
         owned = owned-step;
       })
     where

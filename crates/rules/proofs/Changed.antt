@@ -17,10 +17,11 @@ use Rattle.rules.specs.Change.{Change, admit, wake, block, remove, tick,
 use Rattle.rules.specs.Refuse.{callRows}
 use Rattle.rules.specs.History.{ticks, isIdle}
 use Rattle.rules.specs.Stays.{Stay, lasts, lastsAs, withEnd, changeStays, owns, held, owners}
+use Rattle.rules.specs.Slices.{recent, returnsOf}
 use Rattle.rules.proofs.Tests.{clash, no-some, cases}
 use Rattle.rules.proofs.Named.{named-says, is-named, not-named}
 use Rattle.rules.proofs.Lists.{all-imp, all-map, all-every, all-among, among-all, all-keep, among-keep, count-none, count-among, count-same, any-false}
-use Rattle.rules.proofs.Slices.{begun-idle, begun-none, going, going-gap}
+use Rattle.rules.proofs.Slices.{begun-idle, begun-none, going, going-gap, slices-idle}
 use Rattle.rules.proofs.Sound.{Sound, sound-admitted, sound-set}
 use Rattle.rules.proofs.Window.{within-none, within-idle}
 use Rattle.rules.proofs.Accepted.{Admits, admits}
@@ -115,7 +116,7 @@ module _ (now : ℕ) (vs : List Vcpu) (ss : List Stay) (h : List (Option ℕ)) (
   -- admit
   module _ (d : Description) (a : Admits vs d) where
     abbrev newStay : Stay
-    newStay = record { terms = d; from = now; until = none; folded = false }
+    newStay = record { terms = d; from = now; until = none }
 
     nobody-so-named : count (named (d .tunnel)) vs ≡ 0
     nobody-so-named = count-none (named (d .tunnel)) vs (any-false (named (d .tunnel)) vs (a .not-there))
@@ -134,7 +135,7 @@ module _ (now : ℕ) (vs : List Vcpu) (ss : List Stay) (h : List (Option ℕ)) (
           tied = rw held-nothing
               (record {
                 at-most = λ x k. omega (arith, begun-idle (d .period) x (length h) [], begun-none (d .period) x);
-                exactly = λ f x k. begun-idle (d .period) x (length h) [] ∙ begun-none (d .period) x;
+                one-for-one = λ f. sym (ap (λ ss. returnsOf (d .period) (recent (d .period) now ss)) (slices-idle (d .period) (length h) []));
                 goes-on = λ g. absurd (omega (arith, none-going (length h)));
                 since = λ e w k. clash (sym w);
               });

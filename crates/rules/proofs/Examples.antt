@@ -11,8 +11,10 @@ use Rattle.rules.specs.Change.{Change, admit, wake, block, remove, tick}
 use Rattle.rules.specs.Timer.{timer}
 use Rattle.rules.specs.Refuse.{refusal}
 use Rattle.rules.specs.Turn.{Call, turn, settled}
-use Rattle.rules.specs.History.{after, past, idleTicks}
+use Rattle.rules.specs.History.{after, heard, past, idleTicks}
 use Rattle.rules.specs.Stays.{stays, held, heldTicks, window}
+use Rattle.rules.specs.Slices.{everFolds}
+use Rattle.rules.specs.Demand3.{slicesOf}
 
 abbrev pub at : ℕ → Change → Call
 at now asked = record { now = now; asked = asked }
@@ -29,7 +31,8 @@ figures from until folded latest = record { from = from; until = until; folded =
 
 abbrev figuresOf : List Call → List Figures
 figuresOf calls =
-    map (λ s. figures (s .from) (s .until) (s .folded) (heldTicks (window (s .terms .period) 0 (held s (past calls))))) (stays calls)
+    map (λ s. figures (s .from) (s .until) (everFolds (s .terms .period) (slicesOf (heard calls) s))
+    (heldTicks (window (s .terms .period) 0 (held s (past (heard calls)))))) (stays (heard calls))
 
 abbrev usableTicks : List Call → List ℕ
 usableTicks calls = map (λ v. v .usable) (after calls .vcpus)
@@ -113,6 +116,6 @@ pub again-held : figuresOf again ≡ figures 5 none false 3 ∷ figures 0 (some 
 unfolding turn refusal settled timer moreUrgent charged posted
 again-held = refl
 
-pub again-idle : idleTicks (past again) ≡ 3
+pub again-idle : idleTicks (past (heard again)) ≡ 3
 unfolding turn refusal settled timer moreUrgent charged posted
 again-idle = refl

@@ -13,8 +13,8 @@ use Rattle.rules.specs.Return.{brought, still}
 use Rattle.rules.specs.Change.{admit, wake, tick, change}
 use Rattle.rules.specs.Timer.{timer}
 use Rattle.rules.specs.Refuse.{Refusal, refusal}
-use Rattle.rules.specs.Turn.{Call, turn, settled}
-use Rattle.rules.specs.History.{past, ticks, holds}
+use Rattle.rules.specs.Turn.{Call, Answer, ok, refused, report, turn, settled}
+use Rattle.rules.specs.History.{Exchange, heard, past, holds}
 use Rattle.rules.specs.Stays.{heldTicks, window}
 use Rattle.rules.proofs.Examples.{at}
 
@@ -48,23 +48,24 @@ abbrev chargeHead : ℕ → Option ℕ → List Vcpu → List Vcpu
 chargeHead d none vs = vs
 chargeHead d (some tunnel) vs = cond (eqb d 0) vs (toNamed tunnel (chargedHead d) vs)
 
-abbrev answerHead : Card → Call → Option Refusal → Card
-answerHead c call (some r) = c
+abbrev answerHead : Card → Call → Option Refusal → Answer
+answerHead c call (some r) = record { reply = refused r; card = c }
 answerHead c call none =
+    let d : Card =
     settled (call .now)
-    (change (call .asked) (map (returnedHead (call .now)) (chargeHead (call .now - c .last) (c .running) (c .vcpus))))
+    (change (call .asked) (map (returnedHead (call .now)) (chargeHead (call .now - c .last) (c .running) (c .vcpus)))) in
+    record { reply = ok (report d); card = d }
 
-abbrev turnHead : Card → Call → Card
+abbrev turnHead : Card → Call → Answer
 turnHead c call = answerHead c call (refusal c (call .now) (call .asked))
 
 abbrev afterHead : List Call → Card
 afterHead [] = empty
-afterHead (call ∷ calls) = turnHead (afterHead calls) call
+afterHead (call ∷ calls) = (turnHead (afterHead calls) call) .card
 
-abbrev pastHead : List Call → List (Option ℕ)
-pastHead [] = []
-pastHead (call ∷ calls) =
-    ticks (afterHead (call ∷ calls) .last - afterHead calls .last) (afterHead calls .running) (pastHead calls)
+abbrev heardHead : List Call → List Exchange
+heardHead [] = []
+heardHead (call ∷ calls) = record { call = call; reply = (turnHead (afterHead calls) call) .reply } ∷ heardHead calls
 
 -- tenant 2 (T 10, C 3) is kept waiting until 7 by tenant 1 (T 20, C 7); the latest call comes first
 abbrev late : List Call
@@ -78,10 +79,10 @@ late =
     ∷ at 0 (admit (record { tunnel = 1; period = 20; capacity = 7; priority = 1 }))
     ∷ []
 
-pub twice : heldTicks (window 10 0 (map (λ o. holds 2 o) (pastHead late))) ≡ 2 * 3
+pub twice : heldTicks (window 10 0 (map (λ o. holds 2 o) (past (heardHead late)))) ≡ 2 * 3
 unfolding refusal settled timer moreUrgent
 twice = refl
 
-pub not-here : heldTicks (window 10 0 (map (λ o. holds 2 o) (past late))) ≡ 3
+pub not-here : heldTicks (window 10 0 (map (λ o. holds 2 o) (past (heard late)))) ≡ 3
 unfolding turn refusal settled timer moreUrgent charged posted
 not-here = refl

@@ -10,9 +10,8 @@ use lib.Dec.{leb, eqb}
 use lib.ListN.{length}
 use borrow.Author.Tests.{le-leb, lt-leb, lt-ltb, le-ltb}
 use Rattle.rules.specs.Lists.{count, sum}
-use Rattle.rules.specs.Card.{Card}
 use Rattle.rules.specs.History.{ticks, holds, idleTicks}
-use Rattle.rules.specs.Stays.{Stay, lasts, withFold, withEnd, beforeEnd, owns, held, heldTicks, EachTick, owners}
+use Rattle.rules.specs.Stays.{Stay, lasts, withEnd, beforeEnd, owns, held, heldTicks, EachTick, owners}
 use Rattle.rules.proofs.Tests.{and-right}
 use Rattle.rules.proofs.Lists.{length-ticks}
 
@@ -24,10 +23,6 @@ pub record Dated (last : ℕ) (s : Stay) : Type 0 where
 pub length-held : (s : Stay) (h : List (Option ℕ)) → length (held s h) ≡ length h
 length-held s [] = refl
 length-held s (o ∷ h) = ap suc (length-held s h)
-
-pub held-fold : (c : Card) (now : ℕ) (s : Stay) (h : List (Option ℕ)) → held (withFold c now s) h ≡ held s h
-held-fold c now s [] = refl
-held-fold c now s (o ∷ h) = ap (λ (l : List Bool). owns s o (length h) ∷ l) (held-fold c now s h)
 
 -- a tick from `last` on is the stay's exactly where it lasts and has the holder's identifier
 pub owns-now : (s : Stay) (o : Option ℕ) (last n : ℕ) → Dated last s → last ≤ n → owns s o n ≡ lasts (s .until) && holds (s .terms .tunnel) o

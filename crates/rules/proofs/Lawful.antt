@@ -18,7 +18,7 @@ use Rattle.rules.proofs.Held.{Dated}
 -- a VCPU and the stay that it lasts in
 pub record Pair (last : ℕ) (s : Stay) (v : Vcpu) (h : List (Option ℕ)) : Type 0 where
   pub same-terms : v .terms ≡ s .terms
-  pub tied : Tied (v .terms .period) last (v .ended) (v .pending) (held s h) (s .folded)
+  pub tied : Tied (v .terms .period) last (v .ended) (v .pending) (held s h)
 
 -- `s` is the stay of each VCPU on the card that has its identifier
 abbrev pub Paired : ℕ → List Vcpu → List (Option ℕ) → Stay → Type 0

@@ -17,6 +17,7 @@ pub mod Timer
 pub mod Slices
 pub mod Window
 pub mod Queue
+pub mod Returns
 pub mod Sound
 pub mod Tied
 pub mod Accepted
@@ -25,3 +26,5 @@ pub mod Lawful
 pub mod Advance
 pub mod Changed
 pub mod Reached
+pub mod Folded
+pub mod Runnable

@@ -1,7 +1,7 @@
 -- Laws of the words on lists: a fact of every one, membership, keeping, counting, and a map.
 -- Assumes nothing.
 use mathlib.Core.Path.{_≡_, refl, ap, sym, _∙_, subst}
-use mathlib.Core.Bool.{Bool, true, false, cond}
+use mathlib.Core.Bool.{Bool, true, false, cond, _&&_}
 use mathlib.Core.List.{List, [], _∷_, map}
 use mathlib.Core.Logic.{_⊎_, inl, inr}
 use Prim.Native.Nat.{ℕ, zero, suc, _+_, _≤_}
@@ -9,7 +9,7 @@ use native.Mathlib.Omega.{arith}
 use lib.ListN.{length}
 use Rattle.rules.specs.Lists.{keep, any, count, All, Among}
 use Rattle.rules.specs.History.{ticks}
-use Rattle.rules.proofs.Tests.{clash, or-false, or-true, or-right}
+use Rattle.rules.proofs.Tests.{clash, same-test, and-true, or-false, or-true, or-right}
 
 module _ {A : Type 0} where
   pub all-imp : {P Q : A → Type 0} → ((a : A) → P a → Q a) → (l : List A) → All P l → All Q l
@@ -150,6 +150,17 @@ module _ {A : Type 0} where
       let t : test c ≡ true = subst (λ (x : A). test x ≡ true) f q in
       absurd (omega (arith, count-among test l a m p, rw t at h))
   only-one test (c ∷ l) h a b (inr m) (inr n) p q = only-one test l (omega arith) a b m n p q
+
+  pub any-only : (test also : A → Bool) (l : List A) → count test l ≤ 1 → (a : A) → Among a l → test a ≡ true
+      → any (λ b. test b && also b) l ≡ also a
+  any-only test also l h a m e =
+      same-test (any (λ b. test b && also b) l) (also a) found (λ f. any-among (λ b. test b && also b) l a m (rw (e, f)))
+    where
+      found : any (λ b. test b && also b) l ≡ true → also a ≡ true
+      found f =
+          let p = any-one (λ b. test b && also b) l f in
+          let q = and-true (test (p .0)) (also (p .0)) (p .2) in
+          subst (λ (b : A). also b ≡ true) (only-one test l h (p .0) a (p .1) m (q .0) e) (q .1)
 
   pub length-ticks : (d : ℕ) (a : A) (l : List A) → length (ticks d a l) ≡ d + length l
   length-ticks zero a l = omega arith

@@ -18,7 +18,7 @@ use Rattle.rules.specs.Timer.{returns, earliest, runnable, timer}
 use Rattle.rules.specs.Refuse.{Refusal, refusal}
 use Rattle.rules.specs.Turn.{Call, turn, settled}
 use Rattle.rules.specs.Meaning.{MayRun, Returns, NoneBefore, Runnable, TimerWhile, Sorted, Meaning}
-use Rattle.rules.specs.History.{after, past}
+use Rattle.rules.specs.History.{after, heard, past}
 use Rattle.rules.specs.Stays.{stays}
 use Rattle.rules.proofs.Tests.{clash, no-some, cases}
 use Rattle.rules.proofs.Named.{named-says, is-named, named-itself, on-card-says, is-on-card}
@@ -178,7 +178,7 @@ meaning calls =
       few-pending = all-imp (λ v q. q .few) (after calls .vcpus) k;
     }
   where
-    r : Reached (after calls) (stays calls) (past calls)
+    r : Reached (after calls) (stays (heard calls)) (past (heard calls))
     r = reached calls
 
     s : Settled (after calls)

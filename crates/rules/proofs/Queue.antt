@@ -1,12 +1,12 @@
 -- The return queue: what charge and return do to its sum, its order and its last entry. `pend x` is the ticks due at x or later.
 -- Join, fold and append are one law: d ticks more land on an entry due at D, which is then the last. Assumes nothing.
 use mathlib.Core.Path.{_≡_, refl, ap, sym, _∙_}
-use mathlib.Core.Bool.{Bool, true, false, cond, not}
+use mathlib.Core.Bool.{Bool, true, false, cond, not, _&&_}
 use mathlib.Core.List.{List, [], _∷_, _++_}
 use mathlib.Core.Logic.{_⊎_, ⊎-elim}
 use Prim.Native.Nat.{ℕ, suc, _+_, _-_, _≤_, _<_}
 use native.Mathlib.Omega.{arith}
-use lib.Dec.{leb}
+use lib.Dec.{leb, eqb}
 use lib.ListN.{length, length-append}
 use borrow.Author.Tests.{leb-true, leb-false, le-leb, lt-leb, not-true}
 use Rattle.rules.specs.Limits.{mostPending}
@@ -14,7 +14,8 @@ use Rattle.rules.specs.Lists.{sum}
 use Rattle.rules.specs.Vcpu.{Entry, Vcpu}
 use Rattle.rules.specs.Charge.{toLast, waiting, goesOn, joins, full, folds, posted}
 use Rattle.rules.specs.Return.{brought, still}
-use Rattle.rules.proofs.Tests.{tests, clash, cases, and-true}
+use Rattle.rules.specs.Demand3.{hasToFold}
+use Rattle.rules.proofs.Tests.{tests, clash, cases, and-true, and-right, and-one}
 
 abbrev pub total : List Entry → ℕ
 total q = sum (λ e. e .amount) q
@@ -100,15 +101,13 @@ same-length g (e ∷ []) = refl
 same-length g (e ∷ f ∷ q) = ap suc (same-length g (f ∷ q))
 
 -- d ticks more in the queue, on its last entry
-pub record Posted (low high d : ℕ) (fold : Bool) (q q′ : List Entry) : Type 0 where
+pub record Posted (low high d : ℕ) (q q′ : List Entry) : Type 0 where
   pub in-all : total q′ ≡ total q + d
   pub order : Rising low high q′
   pub waits : waiting q′ ≡ true
   pub few : length q′ ≤ mostPending
   pub counts : (x : ℕ) → x ≤ lastDue q′ → pend x q + d ≤ pend x q′
   pub keeps : (x : ℕ) → pend x q ≤ pend x q′
-  pub counts-exactly : fold ≡ false → (x : ℕ) → x ≤ lastDue q′ → pend x q′ ≡ pend x q + d
-  pub keeps-exactly : fold ≡ false → (x : ℕ) → lastDue q′ < x → pend x q′ ≡ pend x q
 
 -- an entry with d ticks more, and another time
 abbrev with : (Entry → ℕ) → ℕ → Entry → Entry
@@ -121,11 +120,11 @@ with-part x d f e h = (
   by-due x (with f d e) (λ k. omega (arith, part-in x (with f d e) k, part-most x e)) (λ k. omega (arith, part-out x e (omega arith))),
 )
 
--- the amount joins the last entry, whose time becomes no earlier; where it stays, nothing else moves
-to-last : (low high d : ℕ) (fold : Bool) (f : Entry → ℕ) (q : List Entry) → Rising low high q → waiting q ≡ true → length q ≤ mostPending
-    → lastDue q ≤ f (final q) → f (final q) ≤ high → (fold ≡ false → f (final q) ≡ lastDue q) → Posted low high d fold q (toLast (with f d) q)
-to-last low high d fold f [] r w n h k s = clash (sym w)
-to-last low high d fold f (e ∷ []) r w n h k s =
+-- the amount joins the last entry, whose time becomes no earlier
+to-last : (low high d : ℕ) (f : Entry → ℕ) (q : List Entry) → Rising low high q → waiting q ≡ true → length q ≤ mostPending
+    → lastDue q ≤ f (final q) → f (final q) ≤ high → Posted low high d q (toLast (with f d) q)
+to-last low high d f [] r w n h k = clash (sym w)
+to-last low high d f (e ∷ []) r w n h k =
     record {
       in-all = omega arith;
       order = (omega (arith, r .0), k, tt);
@@ -133,11 +132,9 @@ to-last low high d fold f (e ∷ []) r w n h k s =
       few = n;
       counts = λ x j. omega (arith, with-part x d f e h .0 j);
       keeps = λ x. omega (arith, with-part x d f e h .1);
-      counts-exactly = λ t x j. omega (arith, s t, part-in x e (omega (arith, s t)), part-in x (with f d e) j);
-      keeps-exactly = λ t x j. omega (arith, s t, part-out x e (omega (arith, s t)), part-out x (with f d e) j);
     }
-to-last low high d fold f (e ∷ g ∷ q) r w n h k s =
-    let p = to-last (e .due) high d fold f (g ∷ q) (r .2) refl (omega (arith, n)) h k s in
+to-last low high d f (e ∷ g ∷ q) r w n h k =
+    let p = to-last (e .due) high d f (g ∷ q) (r .2) refl (omega (arith, n)) h k in
     let o : lastDue (e ∷ toLast (with f d) (g ∷ q)) ≡ lastDue (toLast (with f d) (g ∷ q)) = ap (λ x. x .due) (last-of e (toLast (with f d) (g ∷ q)) (p .waits)) in
     record {
       in-all = omega (arith, p .in-all);
@@ -146,13 +143,11 @@ to-last low high d fold f (e ∷ g ∷ q) r w n h k s =
       few = omega (arith, same-length (with f d) (g ∷ q), n);
       counts = λ x j. omega (arith, p .counts x (omega arith));
       keeps = λ x. omega (arith, p .keeps x);
-      counts-exactly = λ t x j. omega (arith, p .counts-exactly t x (omega arith));
-      keeps-exactly = λ t x j. omega (arith, p .keeps-exactly t x (omega arith));
     }
 
 -- a new entry behind all others
 append : (low high d : ℕ) (e : Entry) (q : List Entry) → Rising low high q → length q < mostPending → low ≤ e .due
-    → (waiting q ≡ true → lastDue q ≤ e .due) → e .due ≤ high → e .amount ≡ d → Posted low high d false q (q ++ e ∷ [])
+    → (waiting q ≡ true → lastDue q ≤ e .due) → e .due ≤ high → e .amount ≡ d → Posted low high d q (q ++ e ∷ [])
 append low high d e [] r n l h k a =
     record {
       in-all = omega arith;
@@ -161,11 +156,9 @@ append low high d e [] r n l h k a =
       few = omega arith;
       counts = λ x j. omega (arith, part-in x e j);
       keeps = λ x. omega arith;
-      counts-exactly = λ t x j. omega (arith, part-in x e j);
-      keeps-exactly = λ t x j. omega (arith, part-out x e j);
     }
 append low high d e (b ∷ q) r n l h k a =
-    let p : Posted (b .due) high d false q (q ++ e ∷ []) =
+    let p : Posted (b .due) high d q (q ++ e ∷ []) =
     append (b .due) high d e q (r .2) (omega (arith, n)) (before q (r .2) (h refl)) (λ w. omega (arith, ap (λ x. x .due) (last-of b q w), h refl)) k a in
     let o : lastDue (b ∷ (q ++ e ∷ [])) ≡ lastDue (q ++ e ∷ []) = ap (λ x. x .due) (last-of b (q ++ e ∷ []) (p .waits)) in
     record {
@@ -175,8 +168,6 @@ append low high d e (b ∷ q) r n l h k a =
       few = omega (arith, length-append q (e ∷ []), n);
       counts = λ x j. omega (arith, p .counts x (omega arith));
       keeps = λ x. omega (arith, p .keeps x);
-      counts-exactly = λ t x j. omega (arith, p .counts-exactly t x (omega arith));
-      keeps-exactly = λ t x j. omega (arith, p .keeps-exactly t x (omega arith));
     }
   where
     before : (q : List Entry) → Rising (b .due) high q → lastDue (b ∷ q) ≤ e .due → b .due ≤ e .due
@@ -197,13 +188,32 @@ folds-says last v f =
     let p = and-true (not (joins last v)) (full v) f in
     (not-true (joins last v) (p .0), omega (arith, tests))
 
+pub has-to-fold : (last : ℕ) (v : Vcpu) → hasToFold last v ≡ folds last v
+has-to-fold last v = go (v .pending) (eqb (v .ended) last)
+  where
+    go : (q : List Entry) (b : Bool) → leb mostPending (length q) && not b ≡ not (b && waiting q) && leb mostPending (length q)
+    go [] b = sym (and-right (not (b && false)))
+    go (e ∷ q) true = and-right (leb mostPending (length (e ∷ q)))
+    go (e ∷ q) false = and-one (leb mostPending (length (e ∷ q)))
+
 appends-says : (last : ℕ) (v : Vcpu) → joins last v ≡ false → folds last v ≡ false → length (v .pending) < mostPending
 appends-says last v j f =
     let n : full v ≡ false = rw j at f in
     omega (arith, tests)
 
+-- the two ways in which nothing folds
+pub posted-on : (last d : ℕ) (v : Vcpu) → joins last v ≡ true
+    → posted last d v ≡ toLast (λ e. record { due = e .due; amount = e .amount + d }) (v .pending)
+unfolding posted
+posted-on last d v j = rw j
+
+pub posted-new : (last d : ℕ) (v : Vcpu) → joins last v ≡ false → folds last v ≡ false
+    → posted last d v ≡ v .pending ++ record { due = last + v .terms .period; amount = d } ∷ []
+unfolding posted
+posted-new last d v j f = rw (f, j)
+
 abbrev Lands : ℕ → ℕ → Vcpu → Type 0
-Lands last d v = Posted (suc last) (last + v .terms .period) d (folds last v) (v .pending) (posted last d v)
+Lands last d v = Posted (suc last) (last + v .terms .period) d (v .pending) (posted last d v)
 
 -- whichever way the d ticks land
 pub posts : (last d : ℕ) (v : Vcpu) → 1 ≤ v .terms .period → Rising (suc last) (last + v .terms .period) (v .pending)
@@ -215,14 +225,14 @@ posts last d v h r n = ⊎-elim join (λ j. ⊎-elim (fold j) (new j) (cases (fo
     join j =
         let w : waiting (v .pending) ≡ true = joins-says last v j .1 in
         let b = last-between (suc last) (last + v .terms .period) (v .pending) r w in
-        rw j (to-last (suc last) (last + v .terms .period) d _ _ (v .pending) r w n (omega arith) (omega (arith, b .1)) (λ t. omega arith))
+        rw j (to-last (suc last) (last + v .terms .period) d _ (v .pending) r w n (omega arith) (omega (arith, b .1)))
 
     fold : joins last v ≡ false → folds last v ≡ true → Lands last d v
     fold j t =
         let l : mostPending ≤ length (v .pending) = folds-says last v t .1 in
         let w : waiting (v .pending) ≡ true = waits-long (v .pending) (omega arith) in
         let b = last-between (suc last) (last + v .terms .period) (v .pending) r w in
-        rw (t, j) (to-last (suc last) (last + v .terms .period) d _ _ (v .pending) r w n (omega (arith, b .1)) (omega (arith, b .1)) (λ z. clash z))
+        rw (t, j) (to-last (suc last) (last + v .terms .period) d _ (v .pending) r w n (omega (arith, b .1)) (omega (arith, b .1)))
 
     new : joins last v ≡ false → folds last v ≡ false → Lands last d v
     new j t =

@@ -11,9 +11,9 @@ use Rattle.rules.specs.Vcpu.{Vcpu, named}
 use Rattle.rules.specs.Card.{Card, empty}
 use Rattle.rules.specs.Timer.{timer}
 use Rattle.rules.specs.Refuse.{Refusal, refusal}
-use Rattle.rules.specs.Turn.{Call, turn, settled, accepted, afterReturn, afterChange}
-use Rattle.rules.specs.History.{after, past, ticks, holds}
-use Rattle.rules.specs.Stays.{Stay, stays, staysAfter, withFold, changeStays}
+use Rattle.rules.specs.Turn.{Call, ok, refused, report, answered, turn, settled, accepted, afterReturn, afterChange}
+use Rattle.rules.specs.History.{after, heard, told, time, holder, past, ticks, holds}
+use Rattle.rules.specs.Stays.{Stay, stays, changeStays}
 use Rattle.rules.proofs.Named.{is-named}
 use Rattle.rules.proofs.Lists.{all-imp, count-among}
 use Rattle.rules.proofs.Accepted.{Passed, passed, Settled, in-time, runs-on-card}
@@ -31,6 +31,15 @@ pub card-refused : (c : Card) (call : Call) (r : Refusal) → refusal c (call .n
 unfolding turn
 card-refused c call r e = rw e
 
+pub reply-refused : (c : Card) (call : Call) (r : Refusal) → refusal c (call .now) (call .asked) ≡ some r → turn c call .reply ≡ refused r
+unfolding turn
+reply-refused c call r e = rw e
+
+pub reply-accepted : (c : Card) (call : Call) → refusal c (call .now) (call .asked) ≡ none
+    → turn c call .reply ≡ ok (report (accepted c call))
+unfolding turn
+reply-accepted c call e = rw e
+
 pub card-accepted : (c : Card) (call : Call) → refusal c (call .now) (call .asked) ≡ none → turn c call .card ≡ accepted c call
 unfolding turn
 card-accepted c call e = rw e
@@ -39,6 +48,18 @@ card-accepted c call e = rw e
 settles : (now : ℕ) (vs : List Vcpu) (ss : List Stay) (h : List (Option ℕ)) → Lawful now vs ss h → Reached (settled now vs) ss h
 unfolding settled
 settles now vs ss h l = record { settled = record { runs-chosen = refl; timer-set = refl }; lawful = l }
+
+-- the history tells the time of the card, and who runs
+pub told-by-card : (calls : List Call) → (time (heard calls) ≡ after calls .last) × (holder (heard calls) ≡ after calls .running)
+unfolding turn
+told-by-card [] = (refl, refl)
+told-by-card (call ∷ calls) = go (refusal (after calls) (call .now) (call .asked)) (told-by-card calls)
+  where
+    go : (o : Option Refusal) → (time (heard calls) ≡ after calls .last) × (holder (heard calls) ≡ after calls .running)
+        → (told (answered (after calls) call o .reply) (λ r. r .time) (time (heard calls)) ≡ answered (after calls) call o .card .last)
+        × (told (answered (after calls) call o .reply) (λ r. r .run) (holder (heard calls)) ≡ answered (after calls) call o .card .running)
+    go (some r) ih = ih
+    go none ih = (refl, refl)
 
 start : Reached empty [] []
 unfolding timer
@@ -58,38 +79,40 @@ start =
       };
     }
 
+-- an accepted call comes in time, and who runs is on the card
+module _ (c : Card) (ss : List Stay) (h : List (Option ℕ)) (r : Reached c ss h) where
+  pub pace : (call : Call) → Passed c (call .now) (call .asked)
+      → All (λ v. holds (v .terms .tunnel) (c .running) ≡ true → call .now - c .last ≤ v .usable) (c .vcpus)
+  pace call p =
+      all-imp (λ v f q. omega (arith, f q)) (c .vcpus) (in-time c (call .now) (r .settled) (r .lawful .once) (p .not-late))
+
+  pub there : (t : ℕ) → c .running ≡ some t → count (named t) (c .vcpus) ≡ 1
+  there t f =
+      let v = runs-on-card c (r .settled) t f in
+      omega (arith, r .lawful .once t, count-among (named t) (c .vcpus) (v .0) (v .1) (is-named t (v .0) (v .2)))
+
 next : (c : Card) (ss : List Stay) (h : List (Option ℕ)) (call : Call) → Reached c ss h → refusal c (call .now) (call .asked) ≡ none
-    → Reached (accepted c call) (changeStays (call .now) (call .asked) (map (withFold c (call .now)) ss)) (ticks (call .now - c .last) (c .running) h)
+    → Reached (accepted c call) (changeStays (call .now) (call .asked) ss) (ticks (call .now - c .last) (c .running) h)
 next c ss h call r e =
     let p = passed c (call .now) (call .asked) e in
     let l : c .last ≤ call .now = p .not-before in
     let n : c .last + (call .now - c .last) ≡ call .now = omega arith in
     settles (call .now) (afterChange c call) _ _
-    (changed (call .now) (afterReturn c (call .now)) (map (withFold c (call .now)) ss) (ticks (call .now - c .last) (c .running) h)
-    (subst (λ (k : ℕ). Lawful k (afterReturn c k) (map (withFold c k) ss) (ticks (call .now - c .last) (c .running) h)) n
-    (advance c (call .now - c .last) ss h (r .lawful) (pace p) there))
+    (changed (call .now) (afterReturn c (call .now)) ss (ticks (call .now - c .last) (c .running) h)
+    (subst (λ (k : ℕ). Lawful k (afterReturn c k) ss (ticks (call .now - c .last) (c .running) h)) n
+    (advance c (call .now - c .last) ss h (r .lawful) (pace c ss h r call p) (there c ss h r)))
     (call .asked) (rows-stepped c (call .now) (call .asked) ∙ p .asked-for))
-  where
-    pace : Passed c (call .now) (call .asked) → All (λ v. holds (v .terms .tunnel) (c .running) ≡ true → call .now - c .last ≤ v .usable) (c .vcpus)
-    pace p =
-        all-imp (λ v f q. omega (arith, f q)) (c .vcpus) (in-time c (call .now) (r .settled) (r .lawful .once) (p .not-late))
 
-    there : (t : ℕ) → c .running ≡ some t → count (named t) (c .vcpus) ≡ 1
-    there t f =
-        let v = runs-on-card c (r .settled) t f in
-        omega (arith, r .lawful .once t, count-among (named t) (c .vcpus) (v .0) (v .1) (is-named t (v .0) (v .2)))
-
-pub reached : (calls : List Call) → Reached (after calls) (stays calls) (past calls)
-unfolding settled
+pub reached : (calls : List Call) → Reached (after calls) (stays (heard calls)) (past (heard calls))
+unfolding settled turn
 reached [] = start
 reached (call ∷ calls) = go (refusal (after calls) (call .now) (call .asked)) refl (reached calls)
   where
-    go : (o : Option Refusal) → refusal (after calls) (call .now) (call .asked) ≡ o → Reached (after calls) (stays calls) (past calls)
-        → Reached (turn (after calls) call .card) (staysAfter o (after calls) call (stays calls))
-        (ticks (turn (after calls) call .card .last - after calls .last) (after calls .running) (past calls))
+    go : (o : Option Refusal) → refusal (after calls) (call .now) (call .asked) ≡ o → Reached (after calls) (stays (heard calls)) (past (heard calls))
+        → Reached (answered (after calls) call o .card) (told (answered (after calls) call o .reply) (λ r. changeStays (call .now) (call .asked) (stays (heard calls))) (stays (heard calls)))
+        (ticks (told (answered (after calls) call o .reply) (λ r. r .time) (time (heard calls)) - time (heard calls)) (holder (heard calls)) (past (heard calls)))
     go (some r) e ih =
-        let z : after calls .last - after calls .last ≡ 0 = omega arith in
-        rw (card-refused (after calls) call r e, z) ih
+        let z : time (heard calls) - time (heard calls) ≡ 0 = omega arith in
+        rw z ih
     go none e ih =
-        rw (card-accepted (after calls) call e)
-        (next (after calls) (stays calls) (past calls) call ih e)
+        rw (told-by-card calls .0, told-by-card calls .1) (next (after calls) (stays (heard calls)) (past (heard calls)) call ih e)

@@ -1,5 +1,5 @@
 -- The slices of a stay, tick by tick. `going` is how long the slice is that a next held tick would go on with, `begun` counts the held
--- ticks whose slice began at a moment s with x ≤ s + T; both are what the list of slices says. Assumes nothing.
+-- ticks whose slice began at a moment s with x ≤ s + T; then what d held ticks more do to the list of slices. Assumes nothing.
 use mathlib.Core.Path.{_≡_, refl, ap, _∙_, subst}
 use mathlib.Core.Bool.{Bool, true, false, cond, _&&_}
 use mathlib.Core.List.{List, [], _∷_}
@@ -10,10 +10,9 @@ use native.Mathlib.Numerals.{add-one}
 use lib.Dec.{leb, ltb, eqb}
 use lib.ListN.{length, getD, take}
 use borrow.Author.Tests.{leb-true, leb-false, ltb-true, ltb-false, eqb-true, le-leb, lt-leb, lt-ltb, le-ltb, eq-eqb, ne-eqb}
-use Rattle.rules.specs.Lists.{keep, sum}
 use Rattle.rules.specs.History.{ticks}
 use Rattle.rules.specs.Stays.{heldTicks}
-use Rattle.rules.specs.Slices.{Slice, grow, slices, recent}
+use Rattle.rules.specs.Slices.{Slice, grow, slices}
 use Rattle.rules.proofs.Tests.{clash, cases, and-true}
 use Rattle.rules.proofs.Lists.{length-ticks}
 
@@ -147,103 +146,138 @@ fresh T x (suc i) (false ∷ m) e h = omega (arith, begun-not T x m, fresh T x i
 fresh T x (suc i) (true ∷ m) e h =
     omega (arith, begun-in T x m (omega (arith, h, going-gap T i m e)), fresh T x i m e (omega (arith, h)))
 
--- what the list of slices says
+-- the list of slices
 
+-- they lie apart, each with a tick at least, and all end by `n`
+abbrev pub Apart : ℕ → List Slice → Type 0
+Apart n [] = Unit {0}
+Apart n (s ∷ ss) = (1 ≤ s .long) × (s .start + s .long ≤ n) × Apart (s .start) ss
+
+-- how long the slice is that a tick held at `n` goes on with
 abbrev latest : ℕ → ℕ → List Slice → ℕ
 latest T n [] = 0
 latest T n (s ∷ ss) = cond (eqb (s .start + s .long) n && ltb (s .long) T) (s .long) 0
 
-abbrev end : List Slice → ℕ
-end [] = 0
-end (s ∷ ss) = s .start + s .long
+abbrev pub longer : ℕ → Slice → Slice
+longer d s = record { start = s .start; long = s .long + d }
 
-abbrev pieces : ℕ → ℕ → List Slice → ℕ
-pieces T x ss = sum (λ s. s .long) (keep (λ s. leb x (s .start + T)) ss)
+-- the test of `grow`
+goes-on-says : (T n : ℕ) (s : Slice) → eqb (s .start + s .long) n && ltb (s .long) T ≡ true → (s .start + s .long ≡ n) × (s .long < T)
+goes-on-says T n s e =
+    let p = and-true (eqb (s .start + s .long) n) (ltb (s .long) T) e in
+    (eqb-true (s .start + s .long) n (p .0), ltb-true (s .long) T (p .1))
 
-sum-kept : (b : Bool) (s : Slice) (k : List Slice)
-    → sum (λ s. s .long) (cond b (s ∷ k) k) ≡ cond b (s .long) 0 + sum (λ s. s .long) k
-sum-kept true s k = refl
-sum-kept false s k = omega arith
+grow-on : (T n : ℕ) (s : Slice) (ss : List Slice) → s .start + s .long ≡ n → s .long < T → grow T n (s ∷ ss) ≡ longer 1 s ∷ ss
+grow-on T n s ss e h = rw (eq-eqb (s .start + s .long) n e, lt-ltb (s .long) T h)
 
-record Grown (T n g : ℕ) (ss : List Slice) : Type 0 where
-  latest-grown : latest T (suc n) (grow T n ss) ≡ cond (ltb (suc g) T) (suc g) 0
-  end-grown : end (grow T n ss) ≤ suc n
-  pieces-grown : (x : ℕ) → pieces T x (grow T n ss) ≡ cond (leb x (n - g + T)) 1 0 + pieces T x ss
+-- what a list of slices says of the run that ends at `n`, g ticks long
+record Said (T n g : ℕ) (ss : List Slice) : Type 0 where
+  run : latest T n ss ≡ g
+  apart : Apart n ss
 
--- the tick begins a slice
-begins : (T n : ℕ) (ss : List Slice)
-    → (latest T (suc n) (record { start = n; long = 1 } ∷ ss) ≡ cond (ltb 1 T) 1 0)
-    × ((x : ℕ) → pieces T x (record { start = n; long = 1 } ∷ ss) ≡ cond (leb x (n - 0 + T)) 1 0 + pieces T x ss)
-begins T n ss = (
-  rw (eq-eqb (n + 1) (suc n) (omega arith)),
-  λ x. let e : n - 0 ≡ n = omega arith in rw e (sum-kept (leb x (n + T)) (record { start = n; long = 1 }) (keep (λ s. leb x (s .start + T)) ss)),
-)
+begins-said : (T n : ℕ) (ss : List Slice) → Apart n ss
+    → Said T (suc n) (cond (ltb 1 T) 1 0) (record { start = n; long = 1 } ∷ ss)
+begins-said T n ss a =
+    record { run = rw (eq-eqb (n + 1) (suc n) (omega arith)); apart = (omega arith, omega arith, a) }
 
-grown : (T n g : ℕ) (ss : List Slice) → latest T n ss ≡ g → end ss ≤ n → Grown T n g ss
-grown T n g [] e h =
-    subst (λ (g : ℕ). Grown T n g []) e
-    (record { latest-grown = begins T n [] .0; end-grown = omega arith; pieces-grown = begins T n [] .1 })
-grown T n g (s ∷ ss) e h = go (eqb (s .start + s .long) n && ltb (s .long) T) refl e
+grown : (T n g : ℕ) (ss : List Slice) → Said T n g ss → Said T (suc n) (cond (ltb (suc g) T) (suc g) 0) (grow T n ss)
+grown T n g [] a = subst (λ (g : ℕ). Said T (suc n) (cond (ltb (suc g) T) (suc g) 0) (grow T n [])) (a .run) (begins-said T n [] tt)
+grown T n g (s ∷ ss) a = go (eqb (s .start + s .long) n && ltb (s .long) T) refl (a .run)
   where
-    go : (t : Bool) → (eqb (s .start + s .long) n && ltb (s .long) T) ≡ t → cond t (s .long) 0 ≡ g → Grown T n g (s ∷ ss)
+    go : (t : Bool) → (eqb (s .start + s .long) n && ltb (s .long) T) ≡ t → cond t (s .long) 0 ≡ g
+        → Said T (suc n) (cond (ltb (suc g) T) (suc g) 0) (cond t (longer 1 s ∷ ss) (record { start = n; long = 1 } ∷ s ∷ ss))
     go false f p =
-        subst (λ (g : ℕ). Grown T n g (s ∷ ss)) p
-        (record {
-          latest-grown = rw f (begins T n (s ∷ ss) .0);
-          end-grown = rw f (omega arith);
-          pieces-grown = λ x. rw f (begins T n (s ∷ ss) .1 x);
-        })
+        subst (λ (g : ℕ). Said T (suc n) (cond (ltb (suc g) T) (suc g) 0) (record { start = n; long = 1 } ∷ s ∷ ss)) p
+        (begins-said T n (s ∷ ss) (a .apart))
     go true f p =
-        let q : (eqb (s .start + s .long) n ≡ true) × (ltb (s .long) T ≡ true) = and-true (eqb (s .start + s .long) n) (ltb (s .long) T) f in
-        let j : s .start + s .long ≡ n = eqb-true (s .start + s .long) n (q .0) in
-        subst (λ (g : ℕ). Grown T n g (s ∷ ss)) p
+        let q = goes-on-says T n s f in
+        subst (λ (g : ℕ). Said T (suc n) (cond (ltb (suc g) T) (suc g) 0) (longer 1 s ∷ ss)) p
         (record {
-          latest-grown = rw (f, eq-eqb (s .start + (s .long + 1)) (suc n) (omega arith), add-one);
-          end-grown = rw f (omega arith);
-          pieces-grown = λ x. rw f (longer x);
+          run = rw (eq-eqb (s .start + (s .long + 1)) (suc n) (omega arith), add-one);
+          apart = (omega arith, omega arith, a .apart .2);
         })
-      where
-        longer : (x : ℕ)
-            → pieces T x (record { start = s .start; long = s .long + 1 } ∷ ss) ≡ cond (leb x (n - s .long + T)) 1 0 + pieces T x (s ∷ ss)
-        longer x =
-            let j : s .start + s .long ≡ n = eqb-true (s .start + s .long) n (and-true (eqb (s .start + s .long) n) (ltb (s .long) T) f .0) in
-            let k : n - s .long ≡ s .start = omega arith in
-            rw k
-            (omega (
-              arith,
-              sum-kept (leb x (s .start + T)) (record { start = s .start; long = s .long + 1 }) (keep (λ s. leb x (s .start + T)) ss),
-              sum-kept (leb x (s .start + T)) s (keep (λ s. leb x (s .start + T)) ss),
-              add (leb x (s .start + T)),
-            ))
-          where
-            add : (b : Bool) → cond b (s .long + 1) 0 ≡ cond b 1 0 + cond b (s .long) 0
-            add true = omega arith
-            add false = omega arith
 
-record Said (T : ℕ) (m : List Bool) : Type 0 where
-  latest-said : latest T (length m) (slices T m) ≡ going T m
-  end-said : end (slices T m) ≤ length m
-  pieces-said : (x : ℕ) → pieces T x (slices T m) ≡ begun T x m
-
-said : (T : ℕ) (m : List Bool) → Said T m
-unfolding going begun
-said T [] = record { latest-said = refl; end-said = omega arith; pieces-said = λ x. refl }
-said T (false ∷ m) =
-    let ih = said T m in
-    record { latest-said = over (slices T m) (ih .end-said); end-said = omega arith; pieces-said = ih .pieces-said }
+said : (T : ℕ) (m : List Bool) → Said T (length m) (going T m) (slices T m)
+unfolding going
+said T [] = record { run = refl; apart = tt }
+said T (false ∷ m) = over (slices T m) (said T m .apart)
   where
-    over : (ss : List Slice) → end ss ≤ length m → latest T (suc (length m)) ss ≡ 0
-    over [] h = refl
-    over (s ∷ ss) h = rw (ne-eqb (s .start + s .long) (suc (length m)) (omega arith))
-said T (true ∷ m) =
-    let ih = said T m in
-    let g = grown T (length m) (going T m) (slices T m) (ih .latest-said) (ih .end-said) in
-    record {
-      latest-said = g .latest-grown;
-      end-said = g .end-grown;
-      pieces-said = λ x. g .pieces-grown x ∙ ap (λ (y : ℕ). cond (leb x (length m - going T m + T)) 1 0 + y) (ih .pieces-said x);
-    }
+    over : (ss : List Slice) → Apart (length m) ss → Said T (suc (length m)) 0 ss
+    over [] a = record { run = refl; apart = tt }
+    over (s ∷ ss) a =
+        record { run = rw (ne-eqb (s .start + s .long) (suc (length m)) (omega (arith, a .1))); apart = (a .0, omega (arith, a .1), a .2) }
+said T (true ∷ m) = grown T (length m) (going T m) (slices T m) (said T m)
 
--- the ticks of the slices begun less than one period before `now`
-pub recent-begun : (T now : ℕ) (m : List Bool) → recent T now (slices T m) ≡ begun T (suc now) m
-recent-begun T now m = said T m .pieces-said (suc now)
+pub slices-apart : (T : ℕ) (m : List Bool) → Apart (length m) (slices T m)
+slices-apart T m = said T m .apart
+
+pub slices-idle : (T d : ℕ) (m : List Bool) → slices T (ticks d false m) ≡ slices T m
+slices-idle T zero m = refl
+slices-idle T (suc d) m = slices-idle T d m
+
+-- d held ticks more, the first of which begins a slice
+pub slices-begin : (T d : ℕ) (m : List Bool) → going T m ≡ 0 → 1 ≤ d → d ≤ T
+    → slices T (ticks d true m) ≡ record { start = length m; long = d } ∷ slices T m
+slices-begin T zero m g h k = absurd (omega arith)
+slices-begin T (suc zero) m g h k = new (slices T m) (said T m)
+  where
+    new : (ss : List Slice) → Said T (length m) (going T m) ss → grow T (length m) ss ≡ record { start = length m; long = 1 } ∷ ss
+    new [] a = refl
+    new (s ∷ ss) a = go (eqb (s .start + s .long) (length m) && ltb (s .long) T) refl (a .run)
+      where
+        go : (t : Bool) → (eqb (s .start + s .long) (length m) && ltb (s .long) T) ≡ t → cond t (s .long) 0 ≡ going T m
+            → cond t (longer 1 s ∷ ss) (record { start = length m; long = 1 } ∷ s ∷ ss) ≡ record { start = length m; long = 1 } ∷ s ∷ ss
+        go false f p = refl
+        go true f p = absurd (omega (arith, a .apart .0))
+slices-begin T (suc (suc d)) m g h k =
+    let e : length (ticks (suc d) true m) ≡ suc d + length m = length-ticks (suc d) true m in
+    let f : suc d + 1 ≡ suc (suc d) = omega arith in
+    rw (slices-begin T (suc d) m g (omega arith) (omega arith), e)
+    (grow-on T (suc d + length m) (record { start = length m; long = suc d }) (slices T m) (omega arith) (omega arith)
+    ∙ ap (λ (n : ℕ). record { start = length m; long = n } ∷ slices T m) f)
+
+-- d held ticks more, of a slice that goes on
+pub record GoesOn (T d : ℕ) (m : List Bool) : Type 0 where
+  pub slice : Slice
+  pub before : List Slice
+  pub is-latest : slices T m ≡ slice ∷ before
+  pub as-long : slice .long ≡ going T m
+  pub begun-at : slice .start + going T m ≡ length m
+  pub grows : slices T (ticks d true m) ≡ longer d slice ∷ before
+
+pub slices-on : (T d : ℕ) (m : List Bool) → 0 < going T m → going T m + d ≤ T → GoesOn T d m
+slices-on T zero m g h = last (slices T m) refl (said T m)
+  where
+    last : (ss : List Slice) → slices T m ≡ ss → Said T (length m) (going T m) ss → GoesOn T 0 m
+    last [] e a = absurd (omega (arith, a .run))
+    last (s ∷ ss) e a = go (eqb (s .start + s .long) (length m) && ltb (s .long) T) refl (a .run)
+      where
+        go : (t : Bool) → (eqb (s .start + s .long) (length m) && ltb (s .long) T) ≡ t → cond t (s .long) 0 ≡ going T m → GoesOn T 0 m
+        go false f p = absurd (omega arith)
+        go true f p =
+            let q = goes-on-says T (length m) s f in
+            let z : s .long ≡ s .long + 0 = omega arith in
+            record {
+              slice = s;
+              before = ss;
+              is-latest = e;
+              as-long = p;
+              begun-at = omega arith;
+              grows = e ∙ ap (λ (n : ℕ). record { start = s .start; long = n } ∷ ss) z;
+            }
+slices-on T (suc d) m g h = step (slices-on T d m g (omega arith))
+  where
+    step : GoesOn T d m → GoesOn T (suc d) m
+    step p =
+        let n : length (ticks d true m) ≡ d + length m = length-ticks d true m in
+        let z : p .slice .long + d + 1 ≡ p .slice .long + suc d = omega arith in
+        record {
+          slice = p .slice;
+          before = p .before;
+          is-latest = p .is-latest;
+          as-long = p .as-long;
+          begun-at = p .begun-at;
+          grows = rw (p .grows)
+              (grow-on T (length (ticks d true m)) (longer d (p .slice)) (p .before) (omega (arith, p .begun-at, p .as-long)) (omega (arith, p .as-long))
+              ∙ ap (λ (k : ℕ). record { start = p .slice .start; long = k } ∷ p .before) z);
+        }

@@ -21,6 +21,12 @@ pub cases : (t : Bool) → (t ≡ true) ⊎ (t ≡ false)
 cases true = inl refl
 cases false = inr refl
 
+-- two tests that pass together are the same
+pub same-test : (a b : Bool) → (a ≡ true → b ≡ true) → (b ≡ true → a ≡ true) → a ≡ b
+same-test true b f g = sym (f refl)
+same-test false true f g = g refl
+same-test false false f g = refl
+
 pub and-true : (a b : Bool) → a && b ≡ true → (a ≡ true) × (b ≡ true)
 and-true true b e = (refl, e)
 and-true false b e = clash (sym e)
@@ -41,6 +47,14 @@ pub or-right : (a : Bool) → a || true ≡ true
 or-right true = refl
 or-right false = refl
 
+pub or-none : (a : Bool) → a || false ≡ a
+or-none true = refl
+or-none false = refl
+
 pub and-right : (a : Bool) → a && false ≡ false
 and-right true = refl
 and-right false = refl
+
+pub and-one : (a : Bool) → a && true ≡ a
+and-one true = refl
+and-one false = refl

@@ -1,47 +1,97 @@
--- Demand 3, sentence by sentence, of the card, the stays and the history after any calls from the empty card.
+-- Demand 3, sentence by sentence, of what a host hears and of the VCPUs on the card after any calls from the empty card.
 -- Proved for every list of calls in proofs/Demand3. What holds of the card alone is in Meaning. Assumes nothing.
 use Prim.Native.Nat.{ℕ, _+_, _≤_}
 use mathlib.Core.Path.{_≡_}
-use mathlib.Core.Bool.{true, false}
-use mathlib.Core.List.{List}
+use mathlib.Core.Bool.{Bool, true, false, not, _&&_, _||_}
+use mathlib.Core.List.{List, [], _∷_}
+use mathlib.Core.Option.{none}
+use lib.Dec.{leb, ltb, eqb}
 use lib.ListN.{length}
-use Rattle.rules.specs.Lists.{count, sum, All}
-use Rattle.rules.specs.Vcpu.{Vcpu, named}
+use Rattle.rules.specs.Limits.{mostPending}
+use Rattle.rules.specs.Lists.{any, count, sum, All, Among}
+use Rattle.rules.specs.Vcpu.{Vcpu}
+use Rattle.rules.specs.Card.{Card}
 use Rattle.rules.specs.Turn.{Call}
-use Rattle.rules.specs.History.{after, past, idleTicks}
-use Rattle.rules.specs.Stays.{Stay, lasts, lastsAs, stays, held, heldTicks, window, EachTick, owners}
-use Rattle.rules.specs.Slices.{slices, recent}
-
--- of a stay that lasts, a fact of the VCPU on the card that has its identifier
-abbrev pub OfItsVcpu : List Call → (Vcpu → Type 0) → Stay → Type 0
-OfItsVcpu calls P s =
-    lasts (s .until) ≡ true → All (λ v. v .terms .tunnel ≡ s .terms .tunnel → P v) (after calls .vcpus)
+use Rattle.rules.specs.History.{Exchange, after, heard, time, holder, past, isRunnable, idleTicks}
+use Rattle.rules.specs.Stays.{Stay, lasts, lastsAs, stays, owns, held, heldTicks, window, EachTick, owners}
+use Rattle.rules.specs.Slices.{Slice, slices, recent, ticksOf, returnsOf, everFolds}
 
 -- (a) "In any window as long as a tenant's period, within one stay on the card and up to the last accepted call, it held the core for
 -- at most its capacity."
-abbrev pub AtMostCapacity : List Call → Stay → Type 0
-AtMostCapacity calls s =
-    (before : ℕ) → heldTicks (window (s .terms .period) before (held s (past calls))) ≤ s .terms .capacity
+abbrev pub AtMostCapacity : List Exchange → Stay → Type 0
+AtMostCapacity xs s =
+    (before : ℕ) → heldTicks (window (s .terms .period) before (held s (past xs))) ≤ s .terms .capacity
 
--- the ticks of this stay's slices begun less than one period before the last accepted call
-abbrev pub recentTicks : List Call → Stay → ℕ
-recentTicks calls s = recent (s .terms .period) (after calls .last) (slices (s .terms .period) (held s (past calls)))
+-- this stay's slices
+abbrev pub slicesOf : List Exchange → Stay → List Slice
+slicesOf xs s = slices (s .terms .period) (held s (past xs))
 
--- (b) "While its return queue has never had to fold in this stay, its usable budget after each accepted call is its capacity less the
--- ticks of this stay's slices begun less than one period before that call."
-abbrev pub UsableBudget : List Call → Stay → Type 0
-UsableBudget calls s =
-    s .folded ≡ false → OfItsVcpu calls (λ v. v .usable + recentTicks calls s ≡ s .terms .capacity) s
+-- this stay's slices begun less than one period before the last accepted call
+abbrev pub recentOf : List Exchange → Stay → List Slice
+recentOf xs s = recent (s .terms .period) (time xs) (slicesOf xs s)
+
+-- "While its return queue has never had to fold in this stay"
+abbrev pub NeverFolded : List Exchange → Stay → Type 0
+NeverFolded xs s = everFolds (s .terms .period) (slicesOf xs s) ≡ false
+
+-- (b) ".., its usable budget after each accepted call is its capacity less the ticks of this stay's slices begun less than one period
+-- before that call."
+abbrev pub UsableBudget : List Exchange → Stay → Vcpu → Type 0
+UsableBudget xs s v = NeverFolded xs s → v .usable + ticksOf (recentOf xs s) ≡ s .terms .capacity
+
+-- .., and its pending returns are those slices, one for one
+abbrev pub PendingSlices : List Exchange → Stay → Vcpu → Type 0
+PendingSlices xs s v = NeverFolded xs s → v .pending ≡ returnsOf (s .terms .period) (recentOf xs s)
+
+-- of a stay that lasts, a fact of the VCPU on the card that has its identifier
+abbrev pub OfItsVcpu : List Call → (Stay → Vcpu → Type 0) → Stay → Type 0
+OfItsVcpu calls P s =
+    lasts (s .until) ≡ true → All (λ v. v .terms .tunnel ≡ s .terms .tunnel → P s v) (after calls .vcpus)
+
+-- the same sentences the other way round: of a VCPU on the card, that there is its stay
+pub record ItsStay (xs : List Exchange) (v : Vcpu) : Type 0 where
+  pub stay : Stay
+  pub one-of-them : Among stay (stays xs)
+  pub lasting : stay .until ≡ none
+  pub same-terms : v .terms ≡ stay .terms
+  pub at-most-capacity : AtMostCapacity xs stay
+  pub usable-budget : UsableBudget xs stay v
+  pub pending-slices : PendingSlices xs stay v
+
+-- "Else, if 8 are pending, it folds": 8 are pending, and its previous use did not end at `last`
+abbrev pub hasToFold : ℕ → Vcpu → Bool
+hasToFold last v = leb mostPending (length (v .pending)) && not (eqb (v .ended) last)
+
+-- a call accepted at `now` charges ticks of this stay, held from `last` on, to a queue that has to fold
+abbrev pub foldsAt : Card → ℕ → Stay → Bool
+foldsAt c now s =
+    ltb (c .last) now
+    && owns s (c .running) (c .last)
+    && any (λ v. eqb (v .terms .tunnel) (s .terms .tunnel) && hasToFold (c .last) v) (c .vcpus)
+
+-- the queue on the card folded in this stay, at one of these calls
+abbrev pub folded : List Call → Stay → Bool
+folded [] s = false
+folded (call ∷ calls) s = folded calls s || foldsAt (after calls) (after (call ∷ calls) .last) s
 
 pub record Demand3 (calls : List Call) : Type 0 where
   -- the history has one holder for each tick up to the last accepted call
-  pub each-tick : length (past calls) ≡ after calls .last
-  -- (a) and (b), for every stay, ended ones included
-  pub at-most-capacity : All (AtMostCapacity calls) (stays calls)
-  pub usable-budget : All (UsableBudget calls) (stays calls)
+  pub each-tick : length (past (heard calls)) ≡ time (heard calls)
+  -- (a) for every stay, ended ones included; (b) for every stay that lasts
+  pub at-most-capacity : All (AtMostCapacity (heard calls)) (stays (heard calls))
+  pub usable-budget : All (OfItsVcpu calls (UsableBudget (heard calls))) (stays (heard calls))
+  pub pending-slices : All (OfItsVcpu calls (PendingSlices (heard calls))) (stays (heard calls))
+  -- what the history says of folding is what the queue on the card did, for every stay
+  pub folds-exactly : All (λ s. everFolds (s .terms .period) (slicesOf (heard calls) s) ≡ folded calls s) (stays (heard calls))
   -- (c) each tick belongs to one stay or to idle, and together they add up to the time of the last accepted call
-  pub one-owner : EachTick (λ holder at. owners (stays calls) holder at ≡ 1) (past calls)
-  pub adds-up : sum (λ s. heldTicks (held s (past calls))) (stays calls) + idleTicks (past calls) ≡ after calls .last
+  pub one-owner : EachTick (λ holder at. owners (stays (heard calls)) holder at ≡ 1) (past (heard calls))
+  pub adds-up : sum (λ s. heldTicks (held s (past (heard calls)))) (stays (heard calls)) + idleTicks (past (heard calls)) ≡ time (heard calls)
   -- the stays that last are those of the VCPUs on the card, one for each, with the same terms
-  pub stays-on-card : (tunnel : ℕ) → count (lastsAs tunnel) (stays calls) ≡ count (named tunnel) (after calls .vcpus)
-  pub same-terms : All (λ s. OfItsVcpu calls (λ v. v .terms ≡ s .terms) s) (stays calls)
+  pub stays-on-card : (tunnel : ℕ)
+      → count (lastsAs tunnel) (stays (heard calls)) ≡ count (λ v. eqb (v .terms .tunnel) tunnel) (after calls .vcpus)
+  pub same-terms : All (OfItsVcpu calls (λ s v. v .terms ≡ s .terms)) (stays (heard calls))
+  pub every-vcpu : All (ItsStay (heard calls)) (after calls .vcpus)
+  -- the card has the time, the holder and the runnable VCPUs that the history tells
+  pub same-time : after calls .last ≡ time (heard calls)
+  pub same-holder : after calls .running ≡ holder (heard calls)
+  pub runnable-told : All (λ v. v .runnable ≡ isRunnable (heard calls) (v .terms .tunnel)) (after calls .vcpus)

@@ -1,11 +1,13 @@
 -- "A slice is an unbroken run of ticks held by one VCPU within one stay, cut T ticks after its start if it gets so far."
--- Ticks are those of one stay, the latest first. Assumes nothing.
+-- Ticks are those of one stay; ticks and slices have the latest first. Assumes nothing.
 use Prim.Native.Nat.{ℕ, _+_}
-use mathlib.Core.Bool.{Bool, true, false, cond, _&&_}
-use mathlib.Core.List.{List, [], _∷_}
-use lib.Dec.{ltb, eqb}
+use mathlib.Core.Bool.{Bool, true, false, cond, _&&_, _||_}
+use mathlib.Core.List.{List, [], _∷_, map, reverse}
+use lib.Dec.{leb, ltb, eqb}
 use lib.ListN.{length}
+use Rattle.rules.specs.Limits.{mostPending}
 use Rattle.rules.specs.Lists.{keep, sum}
+use Rattle.rules.specs.Vcpu.{Entry}
 
 pub record Slice : Type 0 where
   pub start : ℕ
@@ -18,12 +20,24 @@ grow T now (s ∷ ss) =
     cond (eqb (s .start + s .long) now && ltb (s .long) T) (record { start = s .start; long = s .long + 1 } ∷ ss)
     (record { start = now; long = 1 } ∷ s ∷ ss)
 
--- the slices of a stay, the latest first
+-- the slices of a stay
 abbrev pub slices : ℕ → List Bool → List Slice
 slices T [] = []
 slices T (true ∷ before) = grow T (length before) (slices T before)
 slices T (false ∷ before) = slices T before
 
--- the ticks of the slices begun less than one period before `now`
-abbrev pub recent : ℕ → ℕ → List Slice → ℕ
-recent T now ss = sum (λ s. s .long) (keep (λ s. ltb now (s .start + T)) ss)
+-- those begun less than one period before `now`
+abbrev pub recent : ℕ → ℕ → List Slice → List Slice
+recent T now ss = keep (λ s. ltb now (s .start + T)) ss
+
+abbrev pub ticksOf : List Slice → ℕ
+ticksOf ss = sum (λ s. s .long) ss
+
+-- a slice returns its ticks one period after its start; the oldest comes first
+abbrev pub returnsOf : ℕ → List Slice → List Entry
+returnsOf T ss = reverse (map (λ s. record { due = s .start + T; amount = s .long }) ss)
+
+-- The return queue has room for eight slices: it has to fold when one begins and eight before it began less than one period before.
+abbrev pub everFolds : ℕ → List Slice → Bool
+everFolds T [] = false
+everFolds T (s ∷ before) = leb mostPending (length (recent T (s .start) before)) || everFolds T before

@@ -1,26 +1,21 @@
--- Stays: from an admit to the remove of the same identifier, and the ticks that a stay held.
--- Assumes nothing.
+-- Stays, read off what a host hears: from an accepted admit to the accepted remove of the same identifier; and the ticks that a stay
+-- held. Assumes nothing.
 use Prim.Native.Nat.{ℕ, _+_}
-use mathlib.Core.Bool.{Bool, true, false, cond, not, _&&_, _||_}
+use mathlib.Core.Bool.{Bool, true, false, cond, _&&_}
 use mathlib.Core.List.{List, [], _∷_, map}
 use mathlib.Core.Option.{Option, none, some}
 use lib.Dec.{leb, ltb, eqb}
 use lib.ListN.{length, take, drop}
-use Rattle.rules.specs.Lists.{any, count}
-use Rattle.rules.specs.Vcpu.{Description, named}
-use Rattle.rules.specs.Card.{Card}
-use Rattle.rules.specs.Charge.{folds, noTicks}
+use Rattle.rules.specs.Lists.{count}
+use Rattle.rules.specs.Vcpu.{Description}
 use Rattle.rules.specs.Change.{Change, admit, wake, block, remove, tick}
-use Rattle.rules.specs.Refuse.{Refusal, refusal}
-use Rattle.rules.specs.Turn.{Call}
-use Rattle.rules.specs.History.{after, holds, isIdle}
+use Rattle.rules.specs.History.{Exchange, told, holds, isIdle}
 
--- admitted with these terms at `from`, removed at `until` (none while it lasts); whether its return queue ever had to fold
+-- admitted with these terms at `from`, removed at `until` (none while it lasts)
 pub record Stay : Type 0 where
   pub terms : Description
   pub from : ℕ
   pub until : Option ℕ
-  pub folded : Bool
 
 abbrev pub lasts : Option ℕ → Bool
 lasts none = true
@@ -30,42 +25,23 @@ lasts (some t) = false
 abbrev pub lastsAs : ℕ → Stay → Bool
 lastsAs tunnel s = lasts (s .until) && eqb (s .terms .tunnel) tunnel
 
--- an accepted call at `now` makes the queue of the VCPU so named fold
-abbrev pub foldsAt : Card → ℕ → ℕ → Bool
-foldsAt c now tunnel =
-    holds tunnel (c .running) && not (noTicks (c .last) now) && any (λ v. named tunnel v && folds (c .last) v) (c .vcpus)
-
-abbrev pub withFold : Card → ℕ → Stay → Stay
-withFold c now s =
-    record {
-      terms = s .terms;
-      from = s .from;
-      until = s .until;
-      folded = s .folded || (lasts (s .until) && foldsAt c now (s .terms .tunnel));
-    }
-
 abbrev pub withEnd : ℕ → ℕ → Stay → Stay
 withEnd now tunnel s =
-    record { terms = s .terms; from = s .from; until = cond (lastsAs tunnel s) (some now) (s .until); folded = s .folded }
+    record { terms = s .terms; from = s .from; until = cond (lastsAs tunnel s) (some now) (s .until) }
 
 -- an admit begins a stay, a remove ends one
 abbrev pub changeStays : ℕ → Change → List Stay → List Stay
-changeStays now (admit d) ss = record { terms = d; from = now; until = none; folded = false } ∷ ss
+changeStays now (admit d) ss = record { terms = d; from = now; until = none } ∷ ss
 changeStays now (wake tunnel) ss = ss
 changeStays now (block tunnel) ss = ss
 changeStays now (remove tunnel) ss = map (withEnd now tunnel) ss
 changeStays now tick ss = ss
 
--- an accepted call folds or not, then changes; a refused one does nothing
-abbrev pub staysAfter : Option Refusal → Card → Call → List Stay → List Stay
-staysAfter (some r) c call ss = ss
-staysAfter none c call ss = changeStays (call .now) (call .asked) (map (withFold c (call .now)) ss)
-
 -- all stays so far, ended ones included
-abbrev pub stays : List Call → List Stay
+abbrev pub stays : List Exchange → List Stay
 stays [] = []
-stays (call ∷ calls) =
-    staysAfter (refusal (after calls) (call .now) (call .asked)) (after calls) call (stays calls)
+stays (x ∷ before) =
+    told (x .reply) (λ r. changeStays (x .call .now) (x .call .asked) (stays before)) (stays before)
 
 abbrev pub beforeEnd : Option ℕ → ℕ → Bool
 beforeEnd none at = true

@@ -13,7 +13,7 @@ use Rattle.rules.specs.Vcpu.{Description, moreUrgent, named}
 use Rattle.rules.specs.Vcpu.{Vcpu as Tenant}
 use Rattle.rules.specs.Card.{Card}
 use Rattle.rules.specs.Turn.{Call}
-use Rattle.rules.specs.History.{after, past}
+use Rattle.rules.specs.History.{after, heard, past}
 use Rattle.rules.specs.Stays.{stays}
 use Rattle.rules.specs.Meaning.{InRange, pendingTicks, Sorted}
 use Rattle.rules.proofs.Named.{named-itself}
@@ -91,12 +91,12 @@ between-at k calls e r =
       ranked = r;
     }
   where
-    reach : Reached k (stays calls) (past calls)
-    reach = subst (λ (x : Card). Reached x (stays calls) (past calls)) (sym e) (reached calls)
+    reach : Reached k (stays (heard calls)) (past (heard calls))
+    reach = subst (λ (x : Card). Reached x (stays (heard calls)) (past (heard calls))) (sym e) (reached calls)
 
 module _ (c : Core) (r : SoundCore c) where
   pub between : Between (card c .last) (card c .vcpus)
   between = between-at (card c) (r .calls) (r .shows) (r .ranked)
 
-  pub card-reached : Reached (card c) (stays (r .calls)) (past (r .calls))
-  card-reached = subst (λ (x : Card). Reached x (stays (r .calls)) (past (r .calls))) (sym (r .shows)) (reached (r .calls))
+  pub card-reached : Reached (card c) (stays (heard (r .calls))) (past (heard (r .calls)))
+  card-reached = subst (λ (x : Card). Reached x (stays (heard (r .calls))) (past (heard (r .calls)))) (sym (r .shows)) (reached (r .calls))

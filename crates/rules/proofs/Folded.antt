@@ -1,0 +1,125 @@
+-- "Never had to fold", read off the history, is exactly what the queue on the card did: of every stay, after any calls.
+-- Assumes nothing.
+use mathlib.Core.Path.{_≡_, refl, ap, sym, _∙_, subst}
+use mathlib.Core.Bool.{Bool, true, false, _&&_, _||_}
+use mathlib.Core.List.{List, [], _∷_, map}
+use mathlib.Core.Option.{Option, none, some}
+use Prim.Native.Nat.{ℕ, _+_, _-_, _≤_}
+use native.Mathlib.Omega.{arith}
+use lib.Dec.{ltb}
+use lib.ListN.{length}
+use borrow.Author.Tests.{ltb-true, le-ltb}
+use Rattle.rules.specs.Lists.{any, All, Among}
+use Rattle.rules.specs.Vcpu.{named}
+use Rattle.rules.specs.Card.{Card}
+use Rattle.rules.specs.Change.{Change, admit, wake, block, remove, tick}
+use Rattle.rules.specs.Refuse.{Refusal, refusal}
+use Rattle.rules.specs.Turn.{Call, settled}
+use Rattle.rules.specs.History.{after, heard, time, holder, past, ticks}
+use Rattle.rules.specs.Stays.{Stay, changeStays, stays, withEnd, owns, held}
+use Rattle.rules.specs.Slices.{slices, everFolds}
+use Rattle.rules.specs.Demand3.{slicesOf, hasToFold, foldsAt, folded}
+use Rattle.rules.proofs.Tests.{or-none}
+use Rattle.rules.proofs.Lists.{all-imp, all-map, all-among, among-all, length-ticks}
+use Rattle.rules.proofs.Slices.{slices-idle}
+use Rattle.rules.proofs.Held.{held-new, held-end, owns-none, owns-end}
+use Rattle.rules.proofs.Accepted.{passed}
+use Rattle.rules.proofs.Advance.{says, folded-step}
+use Rattle.rules.proofs.Reached.{reached, pace, there, told-by-card, card-refused, card-accepted, reply-refused, reply-accepted}
+
+last-accepted : (call : Call) (calls : List Call) → refusal (after calls) (call .now) (call .asked) ≡ none → after (call ∷ calls) .last ≡ call .now
+unfolding settled
+last-accepted call calls e = rw (card-accepted (after calls) call e)
+
+never-back : (call : Call) (calls : List Call) → after calls .last ≤ after (call ∷ calls) .last
+never-back call calls = go (refusal (after calls) (call .now) (call .asked)) refl
+  where
+    go : (o : Option Refusal) → refusal (after calls) (call .now) (call .asked) ≡ o → after calls .last ≤ after (call ∷ calls) .last
+    go (some r) e = rw (card-refused (after calls) call r e) (omega arith)
+    go none e = omega (arith, last-accepted call calls e, passed (after calls) (call .now) (call .asked) e .not-before)
+
+-- a charge of no ticks
+none-folds : (c : Card) (s : Stay) → foldsAt c (c .last) s ≡ false
+none-folds c s = rw (le-ltb (c .last) (c .last) (omega arith))
+
+-- before its admission nothing folds in a stay
+
+folds-later : (c : Card) (n : ℕ) (s : Stay) → n ≤ s .from → foldsAt c n s ≡ false
+folds-later c n s h = go (ltb (c .last) n) refl
+  where
+    go : (b : Bool) → ltb (c .last) n ≡ b
+        → b && owns s (c .running) (c .last) && any (λ v. named (s .terms .tunnel) v && hasToFold (c .last) v) (c .vcpus) ≡ false
+    go true e = rw (owns-none s (c .running) (c .last) (omega (arith, ltb-true (c .last) n e)))
+    go false e = refl
+
+folded-new : (calls : List Call) (s : Stay) → after calls .last ≤ s .from → folded calls s ≡ false
+folded-new [] s h = refl
+folded-new (call ∷ calls) s h =
+    rw (folded-new calls s (omega (arith, never-back call calls)), folds-later (after calls) (after (call ∷ calls) .last) s h)
+
+-- an end to come changes nothing of what folded
+
+folds-end : (c : Card) (n now t : ℕ) (s : Stay) → n ≤ now → foldsAt c n (withEnd now t s) ≡ foldsAt c n s
+folds-end c n now t s h = go (ltb (c .last) n) refl
+  where
+    go : (b : Bool) → ltb (c .last) n ≡ b
+        → b && owns (withEnd now t s) (c .running) (c .last) && any (λ v. named (s .terms .tunnel) v && hasToFold (c .last) v) (c .vcpus)
+        ≡ b && owns s (c .running) (c .last) && any (λ v. named (s .terms .tunnel) v && hasToFold (c .last) v) (c .vcpus)
+    go true e = rw (owns-end now t s (c .running) (c .last) (omega (arith, ltb-true (c .last) n e)))
+    go false e = refl
+
+folded-end : (calls : List Call) (now t : ℕ) (s : Stay) → after calls .last ≤ now → folded calls (withEnd now t s) ≡ folded calls s
+folded-end [] now t s h = refl
+folded-end (call ∷ calls) now t s h =
+    rw (folded-end calls now t s (omega (arith, never-back call calls)), folds-end (after calls) (after (call ∷ calls) .last) now t s h)
+
+-- the call's change begins a stay or ends one
+changed-exactly : (calls : List Call) (now : ℕ) (h : List (Option ℕ)) → after calls .last ≡ now → length h ≡ now → (asked : Change) (ss : List Stay)
+    → All (λ s. says s h ≡ folded calls s) ss → All (λ s. says s h ≡ folded calls s) (changeStays now asked ss)
+changed-exactly calls now h e n (admit d) ss a = (new (record { terms = d; from = now; until = none }) (omega arith), a)
+  where
+    new : (s : Stay) → now ≤ s .from → says s h ≡ folded calls s
+    new s k =
+        ap (λ (b : List Bool). everFolds (s .terms .period) (slices (s .terms .period) b)) (held-new s h (omega arith))
+        ∙ ap (everFolds (s .terms .period)) (slices-idle (s .terms .period) (length h) [])
+        ∙ sym (folded-new calls s (omega arith))
+changed-exactly calls now h e n (wake t) ss a = a
+changed-exactly calls now h e n (block t) ss a = a
+changed-exactly calls now h e n (remove t) ss a =
+    all-map (λ s. says s h ≡ folded calls s) (withEnd now t)
+    (λ s q. ap (λ (b : List Bool). everFolds (s .terms .period) (slices (s .terms .period) b)) (held-end now t s h (omega arith))
+    ∙ q ∙ sym (folded-end calls now t s (omega arith))) ss a
+changed-exactly calls now h e n tick ss a = a
+
+pub folds-exactly : (calls : List Call) → All (λ s. everFolds (s .terms .period) (slicesOf (heard calls) s) ≡ folded calls s) (stays (heard calls))
+unfolding settled
+folds-exactly [] = tt
+folds-exactly (call ∷ calls) = go (refusal (after calls) (call .now) (call .asked)) refl (folds-exactly calls)
+  where
+    go : (o : Option Refusal) → refusal (after calls) (call .now) (call .asked) ≡ o
+        → All (λ s. says s (past (heard calls)) ≡ folded calls s) (stays (heard calls))
+        → All (λ s. says s (past (heard (call ∷ calls))) ≡ folded (call ∷ calls) s) (stays (heard (call ∷ calls)))
+    go (some r) e ih =
+        let z : time (heard calls) - time (heard calls) ≡ 0 = omega arith in
+        rw (reply-refused (after calls) call r e, card-refused (after calls) call r e, z)
+        (all-imp (λ s q. q ∙ sym (or-none (folded calls s)) ∙ ap (λ (b : Bool). folded calls s || b) (sym (none-folds (after calls) s)))
+        (stays (heard calls)) ih)
+    go none e ih =
+        let l : after calls .last ≤ call .now = passed (after calls) (call .now) (call .asked) e .not-before in
+        rw (reply-accepted (after calls) call e, told-by-card calls .0, told-by-card calls .1)
+        (changed-exactly (call ∷ calls) (call .now) (ticks (call .now - after calls .last) (after calls .running) (past (heard calls)))
+        (last-accepted call calls e)
+        (omega (arith, length-ticks (call .now - after calls .last) (after calls .running) (past (heard calls)), reached calls .lawful .long))
+        (call .asked) (stays (heard calls)) (among-all _ (stays (heard calls)) (λ s m. more e s m (all-among (λ s. says s (past (heard calls)) ≡ folded calls s) (stays (heard calls)) ih s m))))
+      where
+        more : refusal (after calls) (call .now) (call .asked) ≡ none → (s : Stay) → Among s (stays (heard calls))
+            → says s (past (heard calls)) ≡ folded calls s
+            → says s (ticks (call .now - after calls .last) (after calls .running) (past (heard calls))) ≡ folded (call ∷ calls) s
+        more e s m q =
+            let p = passed (after calls) (call .now) (call .asked) e in
+            let r = reached calls in
+            let n : after calls .last + (call .now - after calls .last) ≡ after (call ∷ calls) .last = omega (arith, last-accepted call calls e, p .not-before) in
+            folded-step (after calls) (call .now - after calls .last) (stays (heard calls)) (past (heard calls)) (r .lawful)
+            (pace (after calls) (stays (heard calls)) (past (heard calls)) r call p) (there (after calls) (stays (heard calls)) (past (heard calls)) r) s m
+            ∙ ap (λ (b : Bool). b || foldsAt (after calls) (after calls .last + (call .now - after calls .last)) s) q
+            ∙ ap (λ (k : ℕ). folded calls s || foldsAt (after calls) k s) n
