@@ -19,13 +19,14 @@ use Rattle.rules.specs.Change.{Change, admit, wake, block, remove, tick}
 use Rattle.rules.specs.Refuse.{callRows}
 use Rattle.rules.specs.Turn.{afterReturn}
 use Rattle.rules.specs.Meaning.{OnTheCard}
-use Rattle.rules.specs.History.{ticks, holds, isIdle}
+use Rattle.rules.specs.History.{ticks, holds}
 use Rattle.rules.specs.Stays.{Stay, lasts, lastsAs, owns, held, EachTick, owners}
 use Rattle.rules.specs.Slices.{slices, everFolds}
 use Rattle.rules.specs.Demand3.{hasToFold, foldsAt}
 use Rattle.rules.proofs.Tests.{tests, cases, and-true, or-none}
 use Rattle.rules.proofs.Named.{named-says, is-named}
-use Rattle.rules.proofs.Lists.{all-imp, all-both, all-map-both, all-map-among, all-among, among-all, any-same, any-only, some-one, count-same, count-among, count-none, length-ticks}
+use Rattle.rules.proofs.Lists.{all-imp, all-both, all-every, all-map-both, all-map-among, all-among, among-all, any-same, any-only}
+use Rattle.rules.proofs.Lists.{some-one, count-same, count-among, count-none, length-ticks}
 use Rattle.rules.proofs.Slices.{slices-idle}
 use Rattle.rules.proofs.Queue.{Rising, has-to-fold}
 use Rattle.rules.proofs.Sound.{Sound, kept-charged, sound-returned}
@@ -97,7 +98,8 @@ module _ (c : Card) (d : ℕ) (ss : List Stay) (h : List (Option ℕ)) (l : Lawf
   abbrev step : Vcpu → Vcpu
   step = stepped (c .last) (c .last + d) (c .running)
 
-  sound-step : (v : Vcpu) → Sound (c .last) v → (holds (v .terms .tunnel) (c .running) ≡ true → d ≤ v .usable) → Sound (c .last + d) (step v)
+  sound-step : (v : Vcpu) → Sound (c .last) v → (holds (v .terms .tunnel) (c .running) ≡ true → d ≤ v .usable)
+      → Sound (c .last + d) (step v)
   sound-step v s p = ⊎-elim ran (λ e. waited e) (cases (holds (v .terms .tunnel) (c .running)))
     where
       ran : holds (v .terms .tunnel) (c .running) ≡ true → Sound (c .last + d) (stepped (c .last) (c .last + d) (c .running) v)
@@ -176,7 +178,11 @@ module _ (c : Card) (d : ℕ) (ss : List Stay) (h : List (Option ℕ)) (l : Lawf
   its-vcpu : (s : Stay) → Among s ss → lasts (s .until) ≡ true → OnTheCard (c .vcpus) (s .terms .tunnel)
   its-vcpu s m u =
       let k : 1 ≤ count (named (s .terms .tunnel)) (c .vcpus) =
-      omega (arith, l .on-card (s .terms .tunnel), count-among (lastsAs (s .terms .tunnel)) ss s m (rw (u, eq-eqb (s .terms .tunnel) (s .terms .tunnel) refl))) in
+      omega (
+        arith,
+        l .on-card (s .terms .tunnel),
+        count-among (lastsAs (s .terms .tunnel)) ss s m (rw (u, eq-eqb (s .terms .tunnel) (s .terms .tunnel) refl)),
+      ) in
       let p = some-one (named (s .terms .tunnel)) (c .vcpus) k in
       (p .0, p .1, named-says (s .terms .tunnel) (p .0) (p .2))
 
@@ -248,7 +254,8 @@ module _ (c : Card) (d : ℕ) (ss : List Stay) (h : List (Option ℕ)) (l : Lawf
           rw a
           (subst (λ x. everFolds (x .period) (slices (x .period) (ticks d true (held s h)))
           ≡ everFolds (x .period) (slices (x .period) (held s h)) || folds (c .last) (v .0)) (its-pair s m u .same-terms)
-          (folds-there (c .last) d (v .0) (held s h) (length-held s h ∙ l .long) (its-sound s m u) (its-pace s m u r) (its-pair s m u .tied) k))
+          (folds-there (c .last) d (v .0) (held s h) (length-held s h ∙ l .long)
+          (its-sound s m u) (its-pace s m u r) (its-pair s m u .tied) k))
 
       go : (n : Bool) → ltb (c .last) (c .last + d) ≡ n → (o : Bool) → owns s (c .running) (c .last) ≡ o
           → says s (ticks d (c .running) h)
@@ -291,4 +298,6 @@ module _ (c : Card) (d : ℕ) (ss : List Stay) (h : List (Option ℕ)) (l : Lawf
       })
     where
       same : (t : ℕ) → count (named t) (map step (c .vcpus)) ≡ count (named t) (c .vcpus)
-      same t = count-same (named t) (named t) step (c .vcpus) (all-imp (λ v s. ap (λ x. eqb (x .tunnel) t) (terms-stepped (c .last) (c .last + d) (c .running) v)) (c .vcpus) (l .sound))
+      same t =
+          count-same (named t) (named t) step (c .vcpus)
+          (all-every (λ v. ap (λ x. eqb (x .tunnel) t) (terms-stepped (c .last) (c .last + d) (c .running) v)) (c .vcpus))

@@ -99,23 +99,49 @@ pub fold-held : figuresOf fold ≡ figures 0 none true 8 ∷ []
 unfolding turn refusal settled timer moreUrgent charged posted
 fold-held = refl
 
--- removed and admitted at one moment: two stays, whose ticks are counted apart; the other three ticks were idle
+-- T 20, C 9, five such ticks, asked at 26: the first four are back, and nothing folded. Where four pending made the queue fold, the
+-- fourth would be back at 28 with the fifth: 7 usable.
+abbrev five : List Call
+five = at 26 tick ∷ short 8 (short 6 (short 4 (short 2 (short 0 (at 0 (admit (tenant 20 9)) ∷ [])))))
+
+pub five-held : figuresOf five ≡ figures 0 none false 2 ∷ []
+unfolding turn refusal settled timer moreUrgent charged posted
+five-held = refl
+
+pub five-usable : usableTicks five ≡ 8 ∷ []
+unfolding turn refusal settled timer moreUrgent charged posted
+five-usable = refl
+
+-- T = C = 3, eight ticks in a row: a slice is cut three ticks after its start, so the latest is two long and 1 is usable. Cut a tick
+-- later, two slices of four would leave none.
+abbrev cut : List Call
+cut = at 8 tick ∷ at 6 tick ∷ at 3 tick ∷ at 0 (wake 2) ∷ at 0 (admit (tenant 3 3)) ∷ []
+
+pub cut-slices : map (λ s. map (λ p. p .long) (slicesOf (heard cut) s)) (stays (heard cut)) ≡ (2 ∷ 3 ∷ 3 ∷ []) ∷ []
+unfolding turn refusal settled timer moreUrgent charged posted
+cut-slices = refl
+
+pub cut-usable : usableTicks cut ≡ 1 ∷ []
+unfolding turn refusal settled timer moreUrgent charged posted
+cut-usable = refl
+
+-- removed and admitted at one moment, while it ran: two stays, whose ticks are counted apart; the other four ticks were idle. Where a
+-- stay owned the tick before its admission, the second would hold 4 of C 3.
 abbrev again : List Call
 again =
     at 9 tick
-    ∷ at 8 tick
-    ∷ at 5 (wake 2)
-    ∷ at 5 (admit (tenant 10 3))
-    ∷ at 5 (remove 2)
-    ∷ at 3 tick
+    ∷ at 5 tick
+    ∷ at 2 (wake 2)
+    ∷ at 2 (admit (tenant 10 3))
+    ∷ at 2 (remove 2)
     ∷ at 0 (wake 2)
     ∷ at 0 (admit (tenant 10 3))
     ∷ []
 
-pub again-held : figuresOf again ≡ figures 5 none false 3 ∷ figures 0 (some 5) false 3 ∷ []
+pub again-held : figuresOf again ≡ figures 2 none false 3 ∷ figures 0 (some 2) false 2 ∷ []
 unfolding turn refusal settled timer moreUrgent charged posted
 again-held = refl
 
-pub again-idle : idleTicks (past (heard again)) ≡ 3
+pub again-idle : idleTicks (past (heard again)) ≡ 4
 unfolding turn refusal settled timer moreUrgent charged posted
 again-idle = refl

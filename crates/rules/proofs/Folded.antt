@@ -1,8 +1,8 @@
 -- "Never had to fold", read off the history, is exactly what the queue on the card did: of every stay, after any calls.
 -- Assumes nothing.
-use mathlib.Core.Path.{_≡_, refl, ap, sym, _∙_, subst}
+use mathlib.Core.Path.{_≡_, refl, ap, sym, _∙_}
 use mathlib.Core.Bool.{Bool, true, false, _&&_, _||_}
-use mathlib.Core.List.{List, [], _∷_, map}
+use mathlib.Core.List.{List, [], _∷_}
 use mathlib.Core.Option.{Option, none, some}
 use Prim.Native.Nat.{ℕ, _+_, _-_, _≤_}
 use native.Mathlib.Omega.{arith}
@@ -15,19 +15,21 @@ use Rattle.rules.specs.Card.{Card}
 use Rattle.rules.specs.Change.{Change, admit, wake, block, remove, tick}
 use Rattle.rules.specs.Refuse.{Refusal, refusal}
 use Rattle.rules.specs.Turn.{Call, settled}
-use Rattle.rules.specs.History.{after, heard, time, holder, past, ticks}
-use Rattle.rules.specs.Stays.{Stay, changeStays, stays, withEnd, owns, held}
+use Rattle.rules.specs.History.{after, heard, time, past, ticks}
+use Rattle.rules.specs.Stays.{Stay, changeStays, stays, withEnd, owns}
 use Rattle.rules.specs.Slices.{slices, everFolds}
 use Rattle.rules.specs.Demand3.{slicesOf, hasToFold, foldsAt, folded}
 use Rattle.rules.proofs.Tests.{or-none}
 use Rattle.rules.proofs.Lists.{all-imp, all-map, all-among, among-all, length-ticks}
 use Rattle.rules.proofs.Slices.{slices-idle}
 use Rattle.rules.proofs.Held.{held-new, held-end, owns-none, owns-end}
-use Rattle.rules.proofs.Accepted.{passed}
+use Rattle.rules.proofs.Accepted.{Passed, passed}
 use Rattle.rules.proofs.Advance.{says, folded-step}
-use Rattle.rules.proofs.Reached.{reached, pace, there, told-by-card, card-refused, card-accepted, reply-refused, reply-accepted}
+use Rattle.rules.proofs.Reached.{card-refused, card-accepted, reply-refused, reply-accepted}
+use Rattle.rules.proofs.Reached.{reached, pace, there, told-by-card}
 
-last-accepted : (call : Call) (calls : List Call) → refusal (after calls) (call .now) (call .asked) ≡ none → after (call ∷ calls) .last ≡ call .now
+last-accepted : (call : Call) (calls : List Call) → refusal (after calls) (call .now) (call .asked) ≡ none
+    → after (call ∷ calls) .last ≡ call .now
 unfolding settled
 last-accepted call calls e = rw (card-accepted (after calls) call e)
 
@@ -74,7 +76,8 @@ folded-end (call ∷ calls) now t s h =
     rw (folded-end calls now t s (omega (arith, never-back call calls)), folds-end (after calls) (after (call ∷ calls) .last) now t s h)
 
 -- the call's change begins a stay or ends one
-changed-exactly : (calls : List Call) (now : ℕ) (h : List (Option ℕ)) → after calls .last ≡ now → length h ≡ now → (asked : Change) (ss : List Stay)
+changed-exactly : (calls : List Call) (now : ℕ) (h : List (Option ℕ)) → after calls .last ≡ now → length h ≡ now
+    → (asked : Change) (ss : List Stay)
     → All (λ s. says s h ≡ folded calls s) ss → All (λ s. says s h ≡ folded calls s) (changeStays now asked ss)
 changed-exactly calls now h e n (admit d) ss a = (new (record { terms = d; from = now; until = none }) (omega arith), a)
   where
@@ -91,7 +94,40 @@ changed-exactly calls now h e n (remove t) ss a =
     ∙ q ∙ sym (folded-end calls now t s (omega arith))) ss a
 changed-exactly calls now h e n tick ss a = a
 
-pub folds-exactly : (calls : List Call) → All (λ s. everFolds (s .terms .period) (slicesOf (heard calls) s) ≡ folded calls s) (stays (heard calls))
+-- an accepted call: what its charge does, then what its change does
+module _ (call : Call) (calls : List Call) (e : refusal (after calls) (call .now) (call .asked) ≡ none) where
+  abbrev c : Card
+  c = after calls
+
+  abbrev ss : List Stay
+  ss = stays (heard calls)
+
+  abbrev h : List (Option ℕ)
+  h = past (heard calls)
+
+  abbrev d : ℕ
+  d = call .now - c .last
+
+  p : Passed c (call .now) (call .asked)
+  p = passed c (call .now) (call .asked) e
+
+  charged-exactly : (s : Stay) → Among s ss → says s h ≡ folded calls s → says s (ticks d (c .running) h) ≡ folded (call ∷ calls) s
+  charged-exactly s m q =
+      let r = reached calls in
+      let n : c .last + d ≡ after (call ∷ calls) .last = omega (arith, last-accepted call calls e, p .not-before) in
+      folded-step c d ss h (r .lawful) (pace c ss h r call p) (there c ss h r) s m
+      ∙ ap (λ (b : Bool). b || foldsAt c (c .last + d) s) q
+      ∙ ap (λ (k : ℕ). folded calls s || foldsAt c k s) n
+
+  accepted-exactly : All (λ s. says s h ≡ folded calls s) ss
+      → All (λ s. says s (ticks d (c .running) h) ≡ folded (call ∷ calls) s) (changeStays (call .now) (call .asked) ss)
+  accepted-exactly a =
+      changed-exactly (call ∷ calls) (call .now) (ticks d (c .running) h) (last-accepted call calls e)
+      (omega (arith, length-ticks d (c .running) h, reached calls .lawful .long, p .not-before)) (call .asked) ss
+      (among-all _ ss (λ s m. charged-exactly s m (all-among (λ s. says s h ≡ folded calls s) ss a s m)))
+
+pub folds-exactly : (calls : List Call)
+    → All (λ s. everFolds (s .terms .period) (slicesOf (heard calls) s) ≡ folded calls s) (stays (heard calls))
 unfolding settled
 folds-exactly [] = tt
 folds-exactly (call ∷ calls) = go (refusal (after calls) (call .now) (call .asked)) refl (folds-exactly calls)
@@ -105,21 +141,4 @@ folds-exactly (call ∷ calls) = go (refusal (after calls) (call .now) (call .as
         (all-imp (λ s q. q ∙ sym (or-none (folded calls s)) ∙ ap (λ (b : Bool). folded calls s || b) (sym (none-folds (after calls) s)))
         (stays (heard calls)) ih)
     go none e ih =
-        let l : after calls .last ≤ call .now = passed (after calls) (call .now) (call .asked) e .not-before in
-        rw (reply-accepted (after calls) call e, told-by-card calls .0, told-by-card calls .1)
-        (changed-exactly (call ∷ calls) (call .now) (ticks (call .now - after calls .last) (after calls .running) (past (heard calls)))
-        (last-accepted call calls e)
-        (omega (arith, length-ticks (call .now - after calls .last) (after calls .running) (past (heard calls)), reached calls .lawful .long))
-        (call .asked) (stays (heard calls)) (among-all _ (stays (heard calls)) (λ s m. more e s m (all-among (λ s. says s (past (heard calls)) ≡ folded calls s) (stays (heard calls)) ih s m))))
-      where
-        more : refusal (after calls) (call .now) (call .asked) ≡ none → (s : Stay) → Among s (stays (heard calls))
-            → says s (past (heard calls)) ≡ folded calls s
-            → says s (ticks (call .now - after calls .last) (after calls .running) (past (heard calls))) ≡ folded (call ∷ calls) s
-        more e s m q =
-            let p = passed (after calls) (call .now) (call .asked) e in
-            let r = reached calls in
-            let n : after calls .last + (call .now - after calls .last) ≡ after (call ∷ calls) .last = omega (arith, last-accepted call calls e, p .not-before) in
-            folded-step (after calls) (call .now - after calls .last) (stays (heard calls)) (past (heard calls)) (r .lawful)
-            (pace (after calls) (stays (heard calls)) (past (heard calls)) r call p) (there (after calls) (stays (heard calls)) (past (heard calls)) r) s m
-            ∙ ap (λ (b : Bool). b || foldsAt (after calls) (after calls .last + (call .now - after calls .last)) s) q
-            ∙ ap (λ (k : ℕ). folded calls s || foldsAt (after calls) k s) n
+        rw (reply-accepted (after calls) call e, told-by-card calls .0, told-by-card calls .1) (accepted-exactly call calls e ih)

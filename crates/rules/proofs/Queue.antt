@@ -58,12 +58,6 @@ pub pend-most : (x : ℕ) (q : List Entry) → pend x q ≤ total q
 pend-most x [] = omega arith
 pend-most x (e ∷ q) = omega (arith, part-most x e, pend-most x q)
 
--- all are due at `low` or later
-pub pend-all : (x low high : ℕ) (q : List Entry) → Rising low high q → x ≤ low → pend x q ≡ total q
-pend-all x low high [] r h = refl
-pend-all x low high (e ∷ q) r h =
-    omega (arith, part-in x e (omega (arith, r .0)), pend-all x (e .due) high q (r .2) (omega (arith, r .0)))
-
 pub rising-wide : (low high low′ high′ : ℕ) (q : List Entry) → low′ ≤ low → high ≤ high′ → Rising low high q → Rising low′ high′ q
 rising-wide low high low′ high′ [] h k r = tt
 rising-wide low high low′ high′ (e ∷ q) h k r =

@@ -2,7 +2,7 @@
 -- Assumes nothing.
 use mathlib.Core.Path.{_≡_, refl, _∙_, subst}
 use mathlib.Core.Bool.{true}
-use mathlib.Core.List.{List, [], _∷_, map}
+use mathlib.Core.List.{List, [], _∷_}
 use mathlib.Core.Option.{Option, none, some}
 use Prim.Native.Nat.{ℕ, _+_, _-_, _≤_}
 use native.Mathlib.Omega.{arith}
@@ -11,8 +11,8 @@ use Rattle.rules.specs.Vcpu.{Vcpu, named}
 use Rattle.rules.specs.Card.{Card, empty}
 use Rattle.rules.specs.Timer.{timer}
 use Rattle.rules.specs.Refuse.{Refusal, refusal}
-use Rattle.rules.specs.Turn.{Call, ok, refused, report, answered, turn, settled, accepted, afterReturn, afterChange}
-use Rattle.rules.specs.History.{after, heard, told, time, holder, past, ticks, holds}
+use Rattle.rules.specs.Turn.{Call, ok, refused, report, turn, settled, accepted, afterReturn, afterChange}
+use Rattle.rules.specs.History.{after, heard, time, holder, past, ticks, holds}
 use Rattle.rules.specs.Stays.{Stay, stays, changeStays}
 use Rattle.rules.proofs.Named.{is-named}
 use Rattle.rules.proofs.Lists.{all-imp, count-among}
@@ -51,15 +51,14 @@ settles now vs ss h l = record { settled = record { runs-chosen = refl; timer-se
 
 -- the history tells the time of the card, and who runs
 pub told-by-card : (calls : List Call) → (time (heard calls) ≡ after calls .last) × (holder (heard calls) ≡ after calls .running)
-unfolding turn
 told-by-card [] = (refl, refl)
-told-by-card (call ∷ calls) = go (refusal (after calls) (call .now) (call .asked)) (told-by-card calls)
+told-by-card (call ∷ calls) = go (refusal (after calls) (call .now) (call .asked)) refl (told-by-card calls)
   where
-    go : (o : Option Refusal) → (time (heard calls) ≡ after calls .last) × (holder (heard calls) ≡ after calls .running)
-        → (told (answered (after calls) call o .reply) (λ r. r .time) (time (heard calls)) ≡ answered (after calls) call o .card .last)
-        × (told (answered (after calls) call o .reply) (λ r. r .run) (holder (heard calls)) ≡ answered (after calls) call o .card .running)
-    go (some r) ih = ih
-    go none ih = (refl, refl)
+    go : (o : Option Refusal) → refusal (after calls) (call .now) (call .asked) ≡ o
+        → (time (heard calls) ≡ after calls .last) × (holder (heard calls) ≡ after calls .running)
+        → (time (heard (call ∷ calls)) ≡ after (call ∷ calls) .last) × (holder (heard (call ∷ calls)) ≡ after (call ∷ calls) .running)
+    go (some r) e ih = rw (reply-refused (after calls) call r e, card-refused (after calls) call r e) ih
+    go none e ih = rw (reply-accepted (after calls) call e, card-accepted (after calls) call e) (refl, refl)
 
 start : Reached empty [] []
 unfolding timer
@@ -104,15 +103,16 @@ next c ss h call r e =
     (call .asked) (rows-stepped c (call .now) (call .asked) ∙ p .asked-for))
 
 pub reached : (calls : List Call) → Reached (after calls) (stays (heard calls)) (past (heard calls))
-unfolding settled turn
+unfolding settled
 reached [] = start
 reached (call ∷ calls) = go (refusal (after calls) (call .now) (call .asked)) refl (reached calls)
   where
-    go : (o : Option Refusal) → refusal (after calls) (call .now) (call .asked) ≡ o → Reached (after calls) (stays (heard calls)) (past (heard calls))
-        → Reached (answered (after calls) call o .card) (told (answered (after calls) call o .reply) (λ r. changeStays (call .now) (call .asked) (stays (heard calls))) (stays (heard calls)))
-        (ticks (told (answered (after calls) call o .reply) (λ r. r .time) (time (heard calls)) - time (heard calls)) (holder (heard calls)) (past (heard calls)))
+    go : (o : Option Refusal) → refusal (after calls) (call .now) (call .asked) ≡ o
+        → Reached (after calls) (stays (heard calls)) (past (heard calls))
+        → Reached (after (call ∷ calls)) (stays (heard (call ∷ calls))) (past (heard (call ∷ calls)))
     go (some r) e ih =
         let z : time (heard calls) - time (heard calls) ≡ 0 = omega arith in
-        rw z ih
+        rw (reply-refused (after calls) call r e, card-refused (after calls) call r e, z) ih
     go none e ih =
-        rw (told-by-card calls .0, told-by-card calls .1) (next (after calls) (stays (heard calls)) (past (heard calls)) call ih e)
+        rw (reply-accepted (after calls) call e, card-accepted (after calls) call e, told-by-card calls .0, told-by-card calls .1)
+        (next (after calls) (stays (heard calls)) (past (heard calls)) call ih e)

@@ -2,8 +2,8 @@
 -- join the last entry as their slice grows, and a new entry is a new slice. Assumes nothing.
 use mathlib.Core.Path.{_≡_, refl, ap, sym, _∙_}
 use mathlib.Core.Bool.{Bool, true, false, cond}
-use mathlib.Core.List.{List, [], _∷_, _++_, map, reverse, reverse-cons}
-use Prim.Native.Nat.{ℕ, suc, _+_, _≤_, _<_}
+use mathlib.Core.List.{List, [], _∷_, _++_, map, reverse-cons}
+use Prim.Native.Nat.{ℕ, _+_, _≤_, _<_}
 use native.Mathlib.Omega.{arith}
 use lib.Dec.{leb, ltb}
 use lib.ListN.{length, length-map, length-reverse}
@@ -83,7 +83,8 @@ still-returns T last now n (s ∷ ss) a h =
   where
     go : (t : Bool) → ltb last (s .start + T) ≡ t → (u : Bool) → ltb now (s .start + T) ≡ u
         → still now (returnsOf T (recent T last ss)) ≡ returnsOf T (recent T now ss)
-        → still now (returnsOf T (cond t (s ∷ recent T last ss) (recent T last ss))) ≡ returnsOf T (cond u (s ∷ recent T now ss) (recent T now ss))
+        → still now (returnsOf T (cond t (s ∷ recent T last ss) (recent T last ss)))
+        ≡ returnsOf T (cond u (s ∷ recent T now ss) (recent T now ss))
     go true e true f ih =
         ap (still now) (returns-cons T s (recent T last ss))
         ∙ still-behind now (returnOf T s) (returnsOf T (recent T last ss)) (ltb-true now (s .start + T) f)

@@ -14,7 +14,7 @@ use Rattle.rules.specs.Change.{Change, admit, wake, block, remove, tick,
 use Rattle.rules.specs.Refuse.{Refusal, callRows, refusal}
 use Rattle.rules.specs.Turn.{Call, afterReturn, settled}
 use Rattle.rules.specs.History.{after, heard, runnableAfter, isRunnable}
-use Rattle.rules.proofs.Lists.{all-imp, all-map, all-among, among-all, among-keep, any-false}
+use Rattle.rules.proofs.Lists.{all-both, all-map, all-among, among-all, among-keep, any-false}
 use Rattle.rules.proofs.Accepted.{passed, admits}
 use Rattle.rules.proofs.Advance.{stepped, each-stepped, terms-stepped, runnable-stepped, rows-stepped}
 use Rattle.rules.proofs.Changed.{all-placed}
@@ -28,7 +28,8 @@ step-runnable : (f : ℕ → Bool) (c : Card) (now : ℕ) → All (As f) (c .vcp
 step-runnable f c now a =
     rw (each-stepped c now)
     (all-map (As f) (stepped (c .last) now (c .running))
-    (λ v q. runnable-stepped (c .last) now (c .running) v ∙ q ∙ ap (λ x. f (x .tunnel)) (sym (terms-stepped (c .last) now (c .running) v)))
+    (λ v q. runnable-stepped (c .last) now (c .running) v ∙ q
+    ∙ ap (λ x. f (x .tunnel)) (sym (terms-stepped (c .last) now (c .running) v)))
     (c .vcpus) a)
 
 mark-runnable : (f : ℕ → Bool) (t : ℕ) (b : Bool) (vs : List Vcpu) → All (As f) vs
@@ -46,8 +47,7 @@ change-runnable : (f : ℕ → Bool) (asked : Change) (vs : List Vcpu) → callR
     → All (As (λ n. runnableAfter asked n (f n))) (change asked vs)
 change-runnable f (admit d) vs e a =
     all-placed (As (λ n. runnableAfter (admit d) n (f n))) (admitted d) vs (rw (eq-eqb (d .tunnel) (d .tunnel) refl))
-    (among-all _ vs (λ v m. rw (all-among (λ v. named (d .tunnel) v ≡ false) vs (any-false (named (d .tunnel)) vs (admits vs d e .not-there)) v m)
-    (all-among (As f) vs a v m)))
+    (all-both (λ v n q. rw n q) vs (any-false (named (d .tunnel)) vs (admits vs d e .not-there)) a)
 change-runnable f (wake t) vs e a = mark-runnable f t true vs a
 change-runnable f (block t) vs e a = mark-runnable f t false vs a
 change-runnable f (remove t) vs e a =
@@ -60,7 +60,8 @@ unfolding settled
 runnable-told [] = tt
 runnable-told (call ∷ calls) = go (refusal (after calls) (call .now) (call .asked)) refl (runnable-told calls)
   where
-    go : (o : Option Refusal) → refusal (after calls) (call .now) (call .asked) ≡ o → All (As (isRunnable (heard calls))) (after calls .vcpus)
+    go : (o : Option Refusal) → refusal (after calls) (call .now) (call .asked) ≡ o
+        → All (As (isRunnable (heard calls))) (after calls .vcpus)
         → All (As (isRunnable (heard (call ∷ calls)))) (after (call ∷ calls) .vcpus)
     go (some r) e ih = rw (reply-refused (after calls) call r e, card-refused (after calls) call r e) ih
     go none e ih =

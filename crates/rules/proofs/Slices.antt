@@ -278,6 +278,7 @@ slices-on T (suc d) m g h = step (slices-on T d m g (omega arith))
           as-long = p .as-long;
           begun-at = p .begun-at;
           grows = rw (p .grows)
-              (grow-on T (length (ticks d true m)) (longer d (p .slice)) (p .before) (omega (arith, p .begun-at, p .as-long)) (omega (arith, p .as-long))
+              (grow-on T (length (ticks d true m)) (longer d (p .slice)) (p .before)
+              (omega (arith, p .begun-at, p .as-long)) (omega (arith, p .as-long))
               ∙ ap (λ (k : ℕ). record { start = p .slice .start; long = k } ∷ p .before) z);
         }

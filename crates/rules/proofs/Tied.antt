@@ -2,14 +2,14 @@
 -- held than are pending at x or later; and while its slices never made the queue fold, the recent ones are its pending returns, one for
 -- one. Assumes of a charge what Sound does.
 use mathlib.Core.Path.{_≡_, refl, ap, sym, _∙_, subst}
-use mathlib.Core.Bool.{Bool, true, false, cond, not, _&&_, _||_}
+use mathlib.Core.Bool.{Bool, true, false, cond, _||_}
 use mathlib.Core.List.{List, [], _∷_, _++_}
 use mathlib.Core.Logic.{_⊎_, ⊎-elim}
 use Prim.Native.Nat.{ℕ, zero, suc, _+_, _-_, _≤_, _<_}
 use native.Mathlib.Omega.{arith}
 use lib.Dec.{leb, ltb, eqb}
 use lib.ListN.{length}
-use borrow.Author.Tests.{leb-true, leb-false, ltb-true, ltb-false, eqb-true, eqb-false, eq-eqb, le-leb}
+use borrow.Author.Tests.{leb-true, leb-false, ltb-true, eqb-true, eqb-false, eq-eqb, le-leb}
 use Rattle.rules.specs.Limits.{mostPending}
 use Rattle.rules.specs.Vcpu.{Entry, Vcpu}
 use Rattle.rules.specs.Charge.{toLast, waiting, goesOn, joins, full, folds, posted, noTicks, chargedSome, charged}
@@ -17,9 +17,10 @@ use Rattle.rules.specs.Return.{still}
 use Rattle.rules.specs.History.{ticks}
 use Rattle.rules.specs.Slices.{Slice, slices, recent, returnsOf, everFolds}
 use Rattle.rules.proofs.Tests.{tests, clash, cases, or-false, or-right, or-none}
-use Rattle.rules.proofs.Lists.{length-ticks}
-use Rattle.rules.proofs.Slices.{going, begun, going-not, going-short, going-counted, More, more, begun-idle, slices-apart, slices-idle, slices-begin, GoesOn, slices-on}
-use Rattle.rules.proofs.Queue.{pend, pend-most, lastDue, last-between, Rising, Posted, posts, due-there, joins-says, posted-on, posted-new, stays-behind}
+use Rattle.rules.proofs.Slices.{going, begun, going-not, going-short, going-counted, More, more, begun-idle}
+use Rattle.rules.proofs.Slices.{slices-apart, slices-idle, slices-begin, slices-on}
+use Rattle.rules.proofs.Queue.{pend, pend-most, lastDue, last-between, Rising, Posted, posts, due-there, joins-says}
+use Rattle.rules.proofs.Queue.{posted-on, posted-new, stays-behind}
 use Rattle.rules.proofs.Returns.{still-again, still-all, length-returns, still-returns, returns-on, returns-begin}
 use Rattle.rules.proofs.Sound.{Sound}
 use Rattle.rules.proofs.Window.{Within, within-held}
@@ -79,14 +80,17 @@ tied-idle T last (suc d) ended q m n h t =
 
 module _ (last d : ℕ) (v : Vcpu) (m : List Bool) (n : length m ≡ last) (s : Sound last v) (u : d ≤ v .usable)
     (t : Tied (v .terms .period) last (v .ended) (v .pending) m) where
+  abbrev T : ℕ
+  T = v .terms .period
+
   -- the going slice's ticks are pending still, and d more fit
-  fits : going (v .terms .period) m + d ≤ v .terms .period
+  fits : going T m + d ≤ T
   fits =
-      let g = going-short (v .terms .period) m in
-      let l : going (v .terms .period) m < v .terms .period = g .1 (s .range .period-low) in
+      let g = going-short T m in
+      let l : going T m < T = g .1 (s .range .period-low) in
       omega (
         arith,
-        going-counted (v .terms .period) (suc last) m (omega (arith, g .0)),
+        going-counted T (suc last) m (omega (arith, g .0)),
         t .at-most (suc last) (omega arith),
         pend-most (suc last) (v .pending),
         s .whole,
@@ -95,31 +99,28 @@ module _ (last d : ℕ) (v : Vcpu) (m : List Bool) (n : length m ≡ last) (s : 
 
   -- the ticks join exactly where a slice goes on
   join-goes-on : joins last v ≡ true
-      → (0 < going (v .terms .period) m) × (lastDue (v .pending) + going (v .terms .period) m ≡ last + v .terms .period)
+      → (0 < going T m) × (lastDue (v .pending) + going T m ≡ last + T)
   join-goes-on j =
       let p = joins-says last v j in
-      t .since (p .0) (p .1) (last-between (suc last) (last + v .terms .period) (v .pending) (s .order) (p .1) .0)
+      t .since (p .0) (p .1) (last-between (suc last) (last + T) (v .pending) (s .order) (p .1) .0)
 
-  goes-on-joins : 0 < going (v .terms .period) m → joins last v ≡ true
+  goes-on-joins : 0 < going T m → joins last v ≡ true
   goes-on-joins g = let e : goesOn last v ≡ true = omega (arith, eq-eqb, le-leb, t .goes-on g .0) in rw (e, t .goes-on g .1)
 
-  by-going : {A : Type 0} → (0 < going (v .terms .period) m → joins last v ≡ true → A)
-      → (going (v .terms .period) m ≡ 0 → joins last v ≡ false → A) → A
+  by-going : {A : Type 0} → (0 < going T m → joins last v ≡ true → A)
+      → (going T m ≡ 0 → joins last v ≡ false → A) → A
   by-going f g = ⊎-elim (λ j. f (join-goes-on j .0) j) (λ j. g (new j) j) (cases (joins last v))
     where
-      new : joins last v ≡ false → going (v .terms .period) m ≡ 0
+      new : joins last v ≡ false → going T m ≡ 0
       new j =
-          ⊎-elim (λ z. clash (sym (goes-on-joins (ltb-true 0 (going (v .terms .period) m) z)) ∙ j)) (λ z. omega (arith, tests))
-          (cases (ltb 0 (going (v .terms .period) m)))
+          ⊎-elim (λ z. clash (sym (goes-on-joins (ltb-true 0 (going T m) z)) ∙ j)) (λ z. omega (arith, tests))
+          (cases (ltb 0 (going T m)))
 
   -- the d ticks land where the return of their slice is due
-  lands-there : lastDue (posted last d v) + going (v .terms .period) m ≡ last + v .terms .period
+  lands-there : lastDue (posted last d v) + going T m ≡ last + T
   lands-there =
-      due-there last d (going (v .terms .period) m) v (λ j. join-goes-on j .1)
+      due-there last d (going T m) v (λ j. join-goes-on j .1)
       (λ j. by-going (λ g k. clash (sym k ∙ j)) (λ g k. g))
-
-  abbrev T : ℕ
-  T = v .terms .period
 
   abbrev before : List Slice
   before = slices T m
@@ -169,7 +170,8 @@ module _ (last d : ℕ) (v : Vcpu) (m : List Bool) (n : length m ≡ last) (s : 
           let p = slices-on T d m g fits in
           let k : last < p .slice .start + T = omega (arith, p .begun-at, going-short T m .1 (s .range .period-low)) in
           posted-on last d v j
-          ∙ ap (toLast (λ e. record { due = e .due; amount = e .amount + d })) (queue-slices (never .0) ∙ ap (λ ss. returnsOf T (recent T last ss)) (p .is-latest))
+          ∙ ap (toLast (λ e. record { due = e .due; amount = e .amount + d }))
+          (queue-slices (never .0) ∙ ap (λ ss. returnsOf T (recent T last ss)) (p .is-latest))
           ∙ returns-on T last d (p .slice) (p .before) k
           ∙ ap (λ ss. returnsOf T (recent T last ss)) (sym (p .grows))
 
@@ -181,15 +183,15 @@ module _ (last d : ℕ) (v : Vcpu) (m : List Bool) (n : length m ≡ last) (s : 
           ∙ ap (λ ss. returnsOf T (recent T last ss)) (sym (begins g h))
 
   tied-held : 1 ≤ d
-      → Tied (v .terms .period) (last + d) (last + d) (posted last d v) (ticks d true m)
+      → Tied T (last + d) (last + d) (posted last d v) (ticks d true m)
   tied-held h =
       record {
         at-most = λ x k. by-landing x
             (λ z. omega (arith, M .counted x z, P .counts x z, t .at-most x (omega arith)))
             (λ z. omega (arith, M .uncounted x z, P .keeps x, t .at-most x (omega arith)));
         one-for-one = λ f. ap (still (last + d)) (posted-slices h f)
-            ∙ still-returns (v .terms .period) last (last + d) (length (ticks d true m)) (slices (v .terms .period) (ticks d true m))
-            (slices-apart (v .terms .period) (ticks d true m)) (omega arith);
+            ∙ still-returns T last (last + d) (length (ticks d true m)) (slices T (ticks d true m))
+            (slices-apart T (ticks d true m)) (omega arith);
         goes-on = λ g. (refl, P .waits, soon g);
         since = λ e w k. (
           omega (arith, M .goes-on (omega (arith, lands-there))),
@@ -197,26 +199,27 @@ module _ (last d : ℕ) (v : Vcpu) (m : List Bool) (n : length m ≡ last) (s : 
         );
       }
     where
-      M : More (v .terms .period) d (lastDue (posted last d v)) m
-      M = more (v .terms .period) d (lastDue (posted last d v)) m (omega (arith, lands-there)) fits
+      M : More T d (lastDue (posted last d v)) m
+      M = more T d (lastDue (posted last d v)) m (omega (arith, lands-there)) fits
 
-      P : Posted (suc last) (last + v .terms .period) d (v .pending) (posted last d v)
+      P : Posted (suc last) (last + T) d (v .pending) (posted last d v)
       P = posts last d v (s .range .period-low) (s .order) (s .few)
 
       by-landing : {A : Type 0} (x : ℕ) → (x ≤ lastDue (posted last d v) → A) → (lastDue (posted last d v) < x → A) → A
       by-landing x f g =
-          ⊎-elim (λ z. f (leb-true x (lastDue (posted last d v)) z)) (λ z. g (leb-false x (lastDue (posted last d v)) z)) (cases (leb x (lastDue (posted last d v))))
+          ⊎-elim (λ z. f (leb-true x (lastDue (posted last d v)) z)) (λ z. g (leb-false x (lastDue (posted last d v)) z))
+          (cases (leb x (lastDue (posted last d v))))
 
-      soon : 0 < going (v .terms .period) (ticks d true m) → last + d < lastDue (posted last d v)
+      soon : 0 < going T (ticks d true m) → last + d < lastDue (posted last d v)
       soon g =
-          ⊎-elim (λ z. absurd (omega (arith, M .is-cut h (eqb-true (going (v .terms .period) m + d) (v .terms .period) z))))
-          (λ z. omega (arith, lands-there, fits, eqb-false (going (v .terms .period) m + d) (v .terms .period) z))
-          (cases (eqb (going (v .terms .period) m + d) (v .terms .period)))
+          ⊎-elim (λ z. absurd (omega (arith, M .is-cut h (eqb-true (going T m + d) T z))))
+          (λ z. omega (arith, lands-there, fits, eqb-false (going T m + d) T z))
+          (cases (eqb (going T m + d) T))
 
-  pub within-charged : Within (v .terms .period) (v .terms .capacity) m
-      → Within (v .terms .period) (v .terms .capacity) (ticks d true m)
+  pub within-charged : Within T (v .terms .capacity) m
+      → Within T (v .terms .capacity) (ticks d true m)
   within-charged w =
-      within-held (v .terms .period) (v .terms .capacity) d m (s .range .period-low) w
+      within-held T (v .terms .capacity) d m (s .range .period-low) w
       (λ x k. omega (arith, t .at-most x (omega arith), pend-most x (v .pending), s .whole))
 
 -- a charge of any d ticks

@@ -85,7 +85,8 @@ pub record Demand3 (calls : List Call) : Type 0 where
   pub folds-exactly : All (λ s. everFolds (s .terms .period) (slicesOf (heard calls) s) ≡ folded calls s) (stays (heard calls))
   -- (c) each tick belongs to one stay or to idle, and together they add up to the time of the last accepted call
   pub one-owner : EachTick (λ holder at. owners (stays (heard calls)) holder at ≡ 1) (past (heard calls))
-  pub adds-up : sum (λ s. heldTicks (held s (past (heard calls)))) (stays (heard calls)) + idleTicks (past (heard calls)) ≡ time (heard calls)
+  pub adds-up :
+      sum (λ s. heldTicks (held s (past (heard calls)))) (stays (heard calls)) + idleTicks (past (heard calls)) ≡ time (heard calls)
   -- the stays that last are those of the VCPUs on the card, one for each, with the same terms
   pub stays-on-card : (tunnel : ℕ)
       → count (lastsAs tunnel) (stays (heard calls)) ≡ count (λ v. eqb (v .terms .tunnel) tunnel) (after calls .vcpus)
