@@ -1,19 +1,20 @@
 -- Steps 1 and 2 of an accepted call: d ticks pass, the one that held the core is charged, and what is due returns.
 -- Assumes that the ticks held are no more than the usable ones, and that who runs is on the card.
 use mathlib.Core.Path.{_≡_, refl, ap, sym, _∙_, subst}
-use mathlib.Core.Bool.{Bool, true, false, cond, _&&_, _||_}
+use mathlib.Core.Bool.{Bool, true, false, cond, not, _&&_, _||_}
 use mathlib.Core.List.{List, [], _∷_, map}
 use mathlib.Core.Logic.{_⊎_, ⊎-elim}
 use mathlib.Core.Option.{Option, none, some}
 use Prim.Native.Nat.{ℕ, suc, _+_, _-_, _≤_}
 use native.Mathlib.Omega.{arith}
-use lib.Dec.{ltb, eqb}
+use lib.Dec.{leb, ltb, eqb}
 use lib.ListN.{length, length-map}
 use borrow.Author.Tests.{eq-eqb}
+use Rattle.rules.specs.Limits.{mostPending}
 use Rattle.rules.specs.Lists.{any, count, All, Among}
-use Rattle.rules.specs.Vcpu.{Vcpu, named}
+use Rattle.rules.specs.Vcpu.{Entry, Vcpu, named}
 use Rattle.rules.specs.Card.{Card, onCard}
-use Rattle.rules.specs.Charge.{charge, noTicks, chargedSome, charged, folds}
+use Rattle.rules.specs.Charge.{waiting, charge, noTicks, chargedSome, charged, folds}
 use Rattle.rules.specs.Return.{bring, returned}
 use Rattle.rules.specs.Change.{Change, admit, wake, block, remove, tick}
 use Rattle.rules.specs.Refuse.{callRows}
@@ -23,12 +24,12 @@ use Rattle.rules.specs.History.{ticks, holds}
 use Rattle.rules.specs.Stays.{Stay, lasts, lastsAs, owns, held, EachTick, owners}
 use Rattle.rules.specs.Slices.{slices, everFolds}
 use Rattle.rules.specs.Demand3.{hasToFold, foldsAt}
-use Rattle.rules.proofs.Tests.{tests, cases, and-true, or-none}
+use Rattle.rules.proofs.Tests.{tests, cases, and-true, and-right, and-one, or-none}
 use Rattle.rules.proofs.Named.{named-says, is-named}
 use Rattle.rules.proofs.Lists.{all-imp, all-both, all-every, all-map-both, all-map-among, all-among, among-all, any-same, any-only}
 use Rattle.rules.proofs.Lists.{some-one, count-same, count-among, count-none, length-ticks}
 use Rattle.rules.proofs.Slices.{slices-idle}
-use Rattle.rules.proofs.Queue.{Rising, has-to-fold}
+use Rattle.rules.proofs.Queue.{Rising}
 use Rattle.rules.proofs.Sound.{Sound, kept-charged, sound-returned}
 use Rattle.rules.proofs.Tied.{Tied, tied-return, tied-idle, tied-charged, within-charged, folds-there}
 use Rattle.rules.proofs.Window.{Within, within-idle}
@@ -87,6 +88,15 @@ rows-stepped c now asked = rw (each-stepped c now) (go asked)
     go (block t) = rw (there t)
     go (remove t) = rw (there t)
     go tick = refl
+
+-- what has to fold is what the rule folds
+has-to-fold : (last : ℕ) (v : Vcpu) → hasToFold last v ≡ folds last v
+has-to-fold last v = go (v .pending) (eqb (v .ended) last)
+  where
+    go : (q : List Entry) (b : Bool) → leb mostPending (length q) && not b ≡ not (b && waiting q) && leb mostPending (length q)
+    go [] b = sym (and-right (not (b && false)))
+    go (e ∷ q) true = and-right (leb mostPending (length (e ∷ q)))
+    go (e ∷ q) false = and-one (leb mostPending (length (e ∷ q)))
 
 -- the history says that the queue had to fold in this stay
 abbrev pub says : Stay → List (Option ℕ) → Bool

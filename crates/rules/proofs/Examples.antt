@@ -13,26 +13,28 @@ use Rattle.rules.specs.Refuse.{refusal}
 use Rattle.rules.specs.Turn.{Call, turn, settled}
 use Rattle.rules.specs.History.{after, heard, past, idleTicks}
 use Rattle.rules.specs.Stays.{stays, held, heldTicks, window}
-use Rattle.rules.specs.Slices.{everFolds}
-use Rattle.rules.specs.Demand3.{slicesOf}
+use Rattle.rules.specs.Slices.{ticksOf, everFolds}
+use Rattle.rules.specs.Demand3.{slicesOf, recentOf}
 
 abbrev pub at : ℕ → Change → Call
 at now asked = record { now = now; asked = asked }
 
--- of each stay: begun, removed, folded, and the ticks held in the latest window
+-- of each stay: begun, removed, folded, the ticks held in the latest window, and those of its slices begun less than one period before
 record Figures : Type 0 where
   from : ℕ
   until : Option ℕ
   folded : Bool
   latest : ℕ
+  recent : ℕ
 
-abbrev figures : ℕ → Option ℕ → Bool → ℕ → Figures
-figures from until folded latest = record { from = from; until = until; folded = folded; latest = latest }
+abbrev figures : ℕ → Option ℕ → Bool → ℕ → ℕ → Figures
+figures from until folded latest recent =
+    record { from = from; until = until; folded = folded; latest = latest; recent = recent }
 
 abbrev figuresOf : List Call → List Figures
 figuresOf calls =
     map (λ s. figures (s .from) (s .until) (everFolds (s .terms .period) (slicesOf (heard calls) s))
-    (heldTicks (window (s .terms .period) 0 (held s (past (heard calls)))))) (stays (heard calls))
+    (heldTicks (window (s .terms .period) 0 (held s (past (heard calls))))) (ticksOf (recentOf (heard calls) s))) (stays (heard calls))
 
 abbrev usableTicks : List Call → List ℕ
 usableTicks calls = map (λ v. v .usable) (after calls .vcpus)
@@ -44,7 +46,7 @@ tenant period capacity = record { tunnel = 2; period = period; capacity = capaci
 abbrev back : List Call
 back = at 10 tick ∷ at 3 tick ∷ at 0 (wake 2) ∷ at 0 (admit (tenant 10 3)) ∷ []
 
-pub back-held : figuresOf back ≡ figures 0 none false 3 ∷ []
+pub back-held : figuresOf back ≡ figures 0 none false 3 0 ∷ []
 unfolding turn refusal settled timer moreUrgent charged posted
 back-held = refl
 
@@ -73,29 +75,31 @@ gap =
     ∷ at 0 (admit (tenant 10 3))
     ∷ []
 
-pub gap-held : figuresOf gap ≡ figures 0 none false 3 ∷ []
+pub gap-held : figuresOf gap ≡ figures 0 none false 3 3 ∷ []
 unfolding turn refusal settled timer moreUrgent charged posted
 gap-held = refl
 
--- T 20, C 9, one tick at each even moment from 0 to 16: the ninth folds. Where the last entry kept its time, 10 would be held in a window.
+-- T 20, C 9, one tick at each even moment: eight have room in the queue. Were it to fold with seven pending, (b) would be silent here.
 abbrev short : ℕ → List Call → List Call
 short now calls = at (now + 1) (block 2) ∷ at now (wake 2) ∷ calls
 
-abbrev full : List Call
-full =
-    short 16
-    (short 14
-    (short 12 (short 10 (short 8 (short 6 (short 4 (short 2 (short 0 (at 0 (admit (tenant 20 9)) ∷ [])))))))))
+abbrev eight : List Call
+eight = short 14 (short 12 (short 10 (short 8 (short 6 (short 4 (short 2 (short 0 (at 0 (admit (tenant 20 9)) ∷ []))))))))
+
+pub eight-held : figuresOf eight ≡ figures 0 none false 8 8 ∷ []
+unfolding turn refusal settled timer moreUrgent charged posted
+eight-held = refl
 
 -- a tick at each moment, from one on
 abbrev ticking : ℕ → ℕ → List Call → List Call
 ticking from zero calls = calls
 ticking from (suc n) calls = at (from + n) tick ∷ ticking from n calls
 
+-- the ninth, at 16, folds. Where the last entry kept its time, 10 would be held in a window.
 abbrev fold : List Call
-fold = ticking 21 16 (at 20 (wake 2) ∷ full)
+fold = ticking 21 16 (at 20 (wake 2) ∷ short 16 eight)
 
-pub fold-held : figuresOf fold ≡ figures 0 none true 8 ∷ []
+pub fold-held : figuresOf fold ≡ figures 0 none true 8 7 ∷ []
 unfolding turn refusal settled timer moreUrgent charged posted
 fold-held = refl
 
@@ -104,7 +108,7 @@ fold-held = refl
 abbrev five : List Call
 five = at 26 tick ∷ short 8 (short 6 (short 4 (short 2 (short 0 (at 0 (admit (tenant 20 9)) ∷ [])))))
 
-pub five-held : figuresOf five ≡ figures 0 none false 2 ∷ []
+pub five-held : figuresOf five ≡ figures 0 none false 2 1 ∷ []
 unfolding turn refusal settled timer moreUrgent charged posted
 five-held = refl
 
@@ -138,7 +142,7 @@ again =
     ∷ at 0 (admit (tenant 10 3))
     ∷ []
 
-pub again-held : figuresOf again ≡ figures 2 none false 3 ∷ figures 0 (some 2) false 2 ∷ []
+pub again-held : figuresOf again ≡ figures 2 none false 3 3 ∷ figures 0 (some 2) false 2 2 ∷ []
 unfolding turn refusal settled timer moreUrgent charged posted
 again-held = refl
 

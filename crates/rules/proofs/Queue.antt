@@ -1,12 +1,12 @@
 -- The return queue: what charge and return do to its sum, its order and its last entry. `pend x` is the ticks due at x or later.
 -- Join, fold and append are one law: d ticks more land on an entry due at D, which is then the last. Assumes nothing.
 use mathlib.Core.Path.{_≡_, refl, ap, sym, _∙_}
-use mathlib.Core.Bool.{Bool, true, false, cond, not, _&&_}
+use mathlib.Core.Bool.{Bool, true, false, cond, not}
 use mathlib.Core.List.{List, [], _∷_, _++_}
 use mathlib.Core.Logic.{_⊎_, ⊎-elim}
 use Prim.Native.Nat.{ℕ, suc, _+_, _-_, _≤_, _<_}
 use native.Mathlib.Omega.{arith}
-use lib.Dec.{leb, eqb}
+use lib.Dec.{leb}
 use lib.ListN.{length, length-append}
 use borrow.Author.Tests.{leb-true, leb-false, le-leb, lt-leb, not-true}
 use Rattle.rules.specs.Limits.{mostPending}
@@ -14,8 +14,7 @@ use Rattle.rules.specs.Lists.{sum}
 use Rattle.rules.specs.Vcpu.{Entry, Vcpu}
 use Rattle.rules.specs.Charge.{toLast, waiting, goesOn, joins, full, folds, posted}
 use Rattle.rules.specs.Return.{brought, still}
-use Rattle.rules.specs.Demand3.{hasToFold}
-use Rattle.rules.proofs.Tests.{tests, clash, cases, and-true, and-right, and-one}
+use Rattle.rules.proofs.Tests.{tests, clash, cases, and-true}
 
 abbrev pub total : List Entry → ℕ
 total q = sum (λ e. e .amount) q
@@ -182,29 +181,10 @@ folds-says last v f =
     let p = and-true (not (joins last v)) (full v) f in
     (not-true (joins last v) (p .0), omega (arith, tests))
 
-pub has-to-fold : (last : ℕ) (v : Vcpu) → hasToFold last v ≡ folds last v
-has-to-fold last v = go (v .pending) (eqb (v .ended) last)
-  where
-    go : (q : List Entry) (b : Bool) → leb mostPending (length q) && not b ≡ not (b && waiting q) && leb mostPending (length q)
-    go [] b = sym (and-right (not (b && false)))
-    go (e ∷ q) true = and-right (leb mostPending (length (e ∷ q)))
-    go (e ∷ q) false = and-one (leb mostPending (length (e ∷ q)))
-
 appends-says : (last : ℕ) (v : Vcpu) → joins last v ≡ false → folds last v ≡ false → length (v .pending) < mostPending
 appends-says last v j f =
     let n : full v ≡ false = rw j at f in
     omega (arith, tests)
-
--- the two ways in which nothing folds
-pub posted-on : (last d : ℕ) (v : Vcpu) → joins last v ≡ true
-    → posted last d v ≡ toLast (λ e. record { due = e .due; amount = e .amount + d }) (v .pending)
-unfolding posted
-posted-on last d v j = rw j
-
-pub posted-new : (last d : ℕ) (v : Vcpu) → joins last v ≡ false → folds last v ≡ false
-    → posted last d v ≡ v .pending ++ record { due = last + v .terms .period; amount = d } ∷ []
-unfolding posted
-posted-new last d v j f = rw (f, j)
 
 abbrev Lands : ℕ → ℕ → Vcpu → Type 0
 Lands last d v = Posted (suc last) (last + v .terms .period) d (v .pending) (posted last d v)
@@ -259,6 +239,17 @@ due-there last d g v a b = ⊎-elim join (λ j. ⊎-elim (fold j) (new j) (cases
 
     new : joins last v ≡ false → folds last v ≡ false → lastDue (posted last d v) + g ≡ last + v .terms .period
     new j t = rw (t, j) (new-due g (last + v .terms .period) _ (v .pending) (omega (arith, b j)))
+
+-- the two ways in which nothing folds
+pub posted-on : (last d : ℕ) (v : Vcpu) → joins last v ≡ true
+    → posted last d v ≡ toLast (λ e. record { due = e .due; amount = e .amount + d }) (v .pending)
+unfolding posted
+posted-on last d v j = rw j
+
+pub posted-new : (last d : ℕ) (v : Vcpu) → joins last v ≡ false → folds last v ≡ false
+    → posted last d v ≡ v .pending ++ record { due = last + v .terms .period; amount = d } ∷ []
+unfolding posted
+posted-new last d v j f = rw (f, j)
 
 pub brought-all : (now : ℕ) (q : List Entry) → brought now q + total (still now q) ≡ total q
 brought-all now [] = refl

@@ -5,13 +5,13 @@ use mathlib.Core.Bool.{Bool, true, false, cond}
 use mathlib.Core.List.{List, [], _∷_, _++_, map, reverse-cons}
 use Prim.Native.Nat.{ℕ, _+_, _≤_, _<_}
 use native.Mathlib.Omega.{arith}
-use lib.Dec.{leb, ltb}
+use lib.Dec.{leb}
 use lib.ListN.{length, length-map, length-reverse}
-use borrow.Author.Tests.{leb-true, ltb-true, ltb-false, le-leb, lt-leb, lt-ltb, le-ltb}
+use borrow.Author.Tests.{leb-true, le-leb, lt-leb, lt-ltb, le-ltb}
 use Rattle.rules.specs.Vcpu.{Entry}
 use Rattle.rules.specs.Charge.{toLast}
 use Rattle.rules.specs.Return.{still}
-use Rattle.rules.specs.Slices.{Slice, recent, ticksOf, returnsOf}
+use Rattle.rules.specs.Slices.{Slice, isRecent, recent, ticksOf, returnsOf}
 use Rattle.rules.proofs.Tests.{tests}
 use Rattle.rules.proofs.Queue.{total, Rising}
 use Rattle.rules.proofs.Slices.{Apart, longer}
@@ -67,11 +67,23 @@ pub total-returns : (T : ℕ) (ss : List Slice) → total (returnsOf T ss) ≡ t
 total-returns T [] = refl
 total-returns T (s ∷ ss) = ap total (returns-cons T s ss) ∙ omega (arith, total-behind (returnOf T s) (returnsOf T ss), total-returns T ss)
 
+is-recent : (T now : ℕ) (s : Slice) → now < s .start + T → isRecent T now s ≡ true
+is-recent T now s h = omega (arith, lt-ltb)
+
+not-recent : (T now : ℕ) (s : Slice) → s .start + T ≤ now → isRecent T now s ≡ false
+not-recent T now s h = omega (arith, le-ltb)
+
+recent-says : (T now : ℕ) (s : Slice) → isRecent T now s ≡ true → now < s .start + T
+recent-says T now s e = omega (arith, tests)
+
+recent-not : (T now : ℕ) (s : Slice) → isRecent T now s ≡ false → s .start + T ≤ now
+recent-not T now s e = omega (arith, tests)
+
 -- slices that began no later than one period before `now`
 none-recent : (T now n : ℕ) (ss : List Slice) → Apart n ss → n + T ≤ now → recent T now ss ≡ []
 none-recent T now n [] a h = refl
 none-recent T now n (s ∷ ss) a h =
-    rw (le-ltb now (s .start + T) (omega (arith, a .1)))
+    rw (not-recent T now s (omega (arith, a .1)))
     (none-recent T now (s .start) ss (a .2) (omega (arith, a .1)))
 
 -- as time goes on the oldest slices cease to be recent, and their returns leave the front
@@ -79,24 +91,24 @@ pub still-returns : (T last now n : ℕ) (ss : List Slice) → Apart n ss → la
     → still now (returnsOf T (recent T last ss)) ≡ returnsOf T (recent T now ss)
 still-returns T last now n [] a h = refl
 still-returns T last now n (s ∷ ss) a h =
-    go (ltb last (s .start + T)) refl (ltb now (s .start + T)) refl (still-returns T last now (s .start) ss (a .2) h)
+    go (isRecent T last s) refl (isRecent T now s) refl (still-returns T last now (s .start) ss (a .2) h)
   where
-    go : (t : Bool) → ltb last (s .start + T) ≡ t → (u : Bool) → ltb now (s .start + T) ≡ u
+    go : (t : Bool) → isRecent T last s ≡ t → (u : Bool) → isRecent T now s ≡ u
         → still now (returnsOf T (recent T last ss)) ≡ returnsOf T (recent T now ss)
         → still now (returnsOf T (cond t (s ∷ recent T last ss) (recent T last ss)))
         ≡ returnsOf T (cond u (s ∷ recent T now ss) (recent T now ss))
     go true e true f ih =
         ap (still now) (returns-cons T s (recent T last ss))
-        ∙ still-behind now (returnOf T s) (returnsOf T (recent T last ss)) (ltb-true now (s .start + T) f)
+        ∙ still-behind now (returnOf T s) (returnsOf T (recent T last ss)) (recent-says T now s f)
         ∙ ap (λ (q : List Entry). q ++ returnOf T s ∷ []) ih
         ∙ sym (returns-cons T s (recent T now ss))
     go true e false f ih =
-        let k : s .start + T ≤ now = ltb-false now (s .start + T) f in
+        let k : s .start + T ≤ now = recent-not T now s f in
         let z : recent T now ss ≡ [] = none-recent T now (s .start) ss (a .2) k in
         ap (still now) (returns-cons T s (recent T last ss))
         ∙ still-none now (returnOf T s) (returnsOf T (recent T last ss)) k (ih ∙ ap (returnsOf T) z)
         ∙ sym (ap (returnsOf T) z)
-    go false e true f ih = absurd (omega (arith, tests))
+    go false e true f ih = absurd (omega (arith, recent-not T last s e, recent-says T now s f))
     go false e false f ih = ih
 
 to-last-behind : (f : Entry → Entry) (e : Entry) (q : List Entry) → toLast f (q ++ e ∷ []) ≡ q ++ f e ∷ []
@@ -109,7 +121,7 @@ pub returns-on : (T last d : ℕ) (s : Slice) (ss : List Slice) → last < s .st
     → toLast (λ e. record { due = e .due; amount = e .amount + d }) (returnsOf T (recent T last (s ∷ ss)))
     ≡ returnsOf T (recent T last (longer d s ∷ ss))
 returns-on T last d s ss h =
-    rw (lt-ltb last (s .start + T) h)
+    rw (is-recent T last s h)
     (ap (toLast (λ e. record { due = e .due; amount = e .amount + d })) (returns-cons T s (recent T last ss))
     ∙ to-last-behind _ (returnOf T s) (returnsOf T (recent T last ss))
     ∙ sym (returns-cons T (longer d s) (recent T last ss)))
@@ -119,4 +131,4 @@ pub returns-begin : (T last d : ℕ) (ss : List Slice) → 1 ≤ T
     → returnsOf T (recent T last ss) ++ record { due = last + T; amount = d } ∷ []
     ≡ returnsOf T (recent T last (record { start = last; long = d } ∷ ss))
 returns-begin T last d ss h =
-    rw (lt-ltb last (last + T) (omega arith)) (sym (returns-cons T (record { start = last; long = d }) (recent T last ss)))
+    rw (is-recent T last (record { start = last; long = d }) (omega arith)) (sym (returns-cons T (record { start = last; long = d }) (recent T last ss)))

@@ -1,7 +1,7 @@
 -- The slices of a stay, tick by tick. `going` is how long the slice is that a next held tick would go on with, `begun` counts the held
 -- ticks whose slice began at a moment s with x ≤ s + T; then what d held ticks more do to the list of slices. Assumes nothing.
 use mathlib.Core.Path.{_≡_, refl, ap, _∙_, subst}
-use mathlib.Core.Bool.{Bool, true, false, cond, _&&_}
+use mathlib.Core.Bool.{Bool, true, false, cond}
 use mathlib.Core.List.{List, [], _∷_}
 use mathlib.Core.Logic.{_⊎_, ⊎-elim}
 use Prim.Native.Nat.{ℕ, zero, suc, _+_, _-_, _≤_, _<_}
@@ -9,11 +9,11 @@ use native.Mathlib.Omega.{arith}
 use native.Mathlib.Numerals.{add-one}
 use lib.Dec.{leb, ltb, eqb}
 use lib.ListN.{length, getD, take}
-use borrow.Author.Tests.{leb-true, leb-false, ltb-true, ltb-false, eqb-true, le-leb, lt-leb, lt-ltb, le-ltb, eq-eqb, ne-eqb}
+use borrow.Author.Tests.{leb-true, leb-false, ltb-true, ltb-false, le-leb, lt-leb, lt-ltb, le-ltb, eq-eqb, ne-eqb}
 use Rattle.rules.specs.History.{ticks}
 use Rattle.rules.specs.Stays.{heldTicks}
-use Rattle.rules.specs.Slices.{Slice, grow, slices}
-use Rattle.rules.proofs.Tests.{clash, cases, and-true}
+use Rattle.rules.specs.Slices.{Slice, uncut, goesOn, grow, slices}
+use Rattle.rules.proofs.Tests.{tests, clash, cases, and-true}
 use Rattle.rules.proofs.Lists.{length-ticks}
 
 unfoldable pub going : ℕ → List Bool → ℕ
@@ -156,19 +156,20 @@ Apart n (s ∷ ss) = (1 ≤ s .long) × (s .start + s .long ≤ n) × Apart (s .
 -- how long the slice is that a tick held at `n` goes on with
 abbrev latest : ℕ → ℕ → List Slice → ℕ
 latest T n [] = 0
-latest T n (s ∷ ss) = cond (eqb (s .start + s .long) n && ltb (s .long) T) (s .long) 0
+latest T n (s ∷ ss) = cond (goesOn T n s) (s .long) 0
 
 abbrev pub longer : ℕ → Slice → Slice
 longer d s = record { start = s .start; long = s .long + d }
 
--- the test of `grow`
-goes-on-says : (T n : ℕ) (s : Slice) → eqb (s .start + s .long) n && ltb (s .long) T ≡ true → (s .start + s .long ≡ n) × (s .long < T)
+goes-on-says : (T n : ℕ) (s : Slice) → goesOn T n s ≡ true → (s .start + s .long ≡ n) × (s .long < T)
 goes-on-says T n s e =
-    let p = and-true (eqb (s .start + s .long) n) (ltb (s .long) T) e in
-    (eqb-true (s .start + s .long) n (p .0), ltb-true (s .long) T (p .1))
+    let p = and-true (eqb (s .start + s .long) n) (uncut T s) e in
+    (omega (arith, tests, p .0), omega (arith, tests, p .1))
 
 grow-on : (T n : ℕ) (s : Slice) (ss : List Slice) → s .start + s .long ≡ n → s .long < T → grow T n (s ∷ ss) ≡ longer 1 s ∷ ss
-grow-on T n s ss e h = rw (eq-eqb (s .start + s .long) n e, lt-ltb (s .long) T h)
+grow-on T n s ss e h =
+    let u : uncut T s ≡ true = omega (arith, lt-ltb) in
+    rw (eq-eqb (s .start + s .long) n e, u)
 
 -- what a list of slices says of the run that ends at `n`, g ticks long
 record Said (T n g : ℕ) (ss : List Slice) : Type 0 where
@@ -182,9 +183,9 @@ begins-said T n ss a =
 
 grown : (T n g : ℕ) (ss : List Slice) → Said T n g ss → Said T (suc n) (cond (ltb (suc g) T) (suc g) 0) (grow T n ss)
 grown T n g [] a = subst (λ (g : ℕ). Said T (suc n) (cond (ltb (suc g) T) (suc g) 0) (grow T n [])) (a .run) (begins-said T n [] tt)
-grown T n g (s ∷ ss) a = go (eqb (s .start + s .long) n && ltb (s .long) T) refl (a .run)
+grown T n g (s ∷ ss) a = go (goesOn T n s) refl (a .run)
   where
-    go : (t : Bool) → (eqb (s .start + s .long) n && ltb (s .long) T) ≡ t → cond t (s .long) 0 ≡ g
+    go : (t : Bool) → goesOn T n s ≡ t → cond t (s .long) 0 ≡ g
         → Said T (suc n) (cond (ltb (suc g) T) (suc g) 0) (cond t (longer 1 s ∷ ss) (record { start = n; long = 1 } ∷ s ∷ ss))
     go false f p =
         subst (λ (g : ℕ). Said T (suc n) (cond (ltb (suc g) T) (suc g) 0) (record { start = n; long = 1 } ∷ s ∷ ss)) p
@@ -223,9 +224,9 @@ slices-begin T (suc zero) m g h k = new (slices T m) (said T m)
   where
     new : (ss : List Slice) → Said T (length m) (going T m) ss → grow T (length m) ss ≡ record { start = length m; long = 1 } ∷ ss
     new [] a = refl
-    new (s ∷ ss) a = go (eqb (s .start + s .long) (length m) && ltb (s .long) T) refl (a .run)
+    new (s ∷ ss) a = go (goesOn T (length m) s) refl (a .run)
       where
-        go : (t : Bool) → (eqb (s .start + s .long) (length m) && ltb (s .long) T) ≡ t → cond t (s .long) 0 ≡ going T m
+        go : (t : Bool) → goesOn T (length m) s ≡ t → cond t (s .long) 0 ≡ going T m
             → cond t (longer 1 s ∷ ss) (record { start = length m; long = 1 } ∷ s ∷ ss) ≡ record { start = length m; long = 1 } ∷ s ∷ ss
         go false f p = refl
         go true f p = absurd (omega (arith, a .apart .0))
@@ -250,9 +251,9 @@ slices-on T zero m g h = last (slices T m) refl (said T m)
   where
     last : (ss : List Slice) → slices T m ≡ ss → Said T (length m) (going T m) ss → GoesOn T 0 m
     last [] e a = absurd (omega (arith, a .run))
-    last (s ∷ ss) e a = go (eqb (s .start + s .long) (length m) && ltb (s .long) T) refl (a .run)
+    last (s ∷ ss) e a = go (goesOn T (length m) s) refl (a .run)
       where
-        go : (t : Bool) → (eqb (s .start + s .long) (length m) && ltb (s .long) T) ≡ t → cond t (s .long) 0 ≡ going T m → GoesOn T 0 m
+        go : (t : Bool) → goesOn T (length m) s ≡ t → cond t (s .long) 0 ≡ going T m → GoesOn T 0 m
         go false f p = absurd (omega arith)
         go true f p =
             let q = goes-on-says T (length m) s f in
