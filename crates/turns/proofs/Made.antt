@@ -98,13 +98,18 @@ pub first : (c : Core) → c ≡ coreOf empty → (c ≡ coreOf empty) × ValidC
 first c e = (e, record { calls = []; made-by = e })
 
 pub one-more : (c : Core) (now : Moment) (change : Change) → ValidCore c → (a : Answer) → a ≡ turned c now change
-    → (a ≡ turned c now change) × ValidCore (a .core)
+    → (paperReply (a .reply) ≡ (turn (card c) (callOf now change)) .reply)
+    × ((a .core ≡ coreOf ((turn (card c) (callOf now change)) .card)) × ValidCore (a .core))
+unfolding turned
 one-more c now change v a e = (
-  e,
-  record {
-    calls = record { now = now; change = change } ∷ v .calls;
-    made-by = ap (λ (x : Answer). x .core) e ∙ ap (λ (d : Core). (turned d now change) .core) (v .made-by);
-  },
+  ap (λ (x : Answer). paperReply (x .reply)) e ∙ paper-said ((turn (card c) (callOf now change)) .reply),
+  (
+    ap (λ (x : Answer). x .core) e,
+    record {
+      calls = record { now = now; change = change } ∷ v .calls;
+      made-by = ap (λ (x : Answer). x .core) e ∙ ap (λ (d : Core). (turned d now change) .core) (v .made-by);
+    },
+  ),
 )
 
 -- "A refusal returns the number and the detail and no result; the state handed back equals the state handed in."

@@ -1,7 +1,17 @@
--- Any two replies that the promise of a public function of `turns` allows are equal, the state handed back included (`OneReply` of crate promise). Assumes
--- nothing.
-use mathlib.Core.Path.{sym, _∙_}
+-- Any two replies that the promise of a public function of `turns` allows are equal, the state handed back included (`OneReply` of
+-- crate promise). Assumes nothing.
+use mathlib.Core.Path.{_≡_, sym, _∙_}
+use Rattle.units.specs.declared.Moment.{Moment}
+use Rattle.rules.specs.Turn.{turn as turnRule}
 use Rattle.promise.specs.OneReply.{OneReply}
+use Rattle.turns.specs.declared.Answer.{Answer}
+use Rattle.turns.specs.declared.Change.{Change}
+use Rattle.turns.specs.declared.Change.the-variants.{Admit, Wake, Block, Remove, Tick}
+use Rattle.turns.specs.declared.Core.{Core}
+use Rattle.turns.specs.Written.{card, coreOf}
+use Rattle.turns.specs.Calls.{callOf, paperReply}
+use Rattle.turns.specs.State.{ValidCore}
+use Rattle.turns.proofs.Paper.{whole-answer, same-status}
 use Rattle.turns.proofs.Core.empty.Kinds as empty
 use Rattle.turns.proofs.Core.empty.Reads as empty-promise
 use Rattle.turns.proofs.Core.turn.Kinds as turn
@@ -24,26 +34,35 @@ use Rattle.turns.proofs.Core.status.Reads as status-promise
 pub empty-one : OneReply 0 empty.ps empty.r empty-promise.Post
 empty-one κs args a b x y p q = p .0 ∙ sym (q .0)
 
+abbrev Promise : Core → Moment → Change → Answer → Type 0
+Promise c now change a =
+    (paperReply (a .reply) ≡ (turnRule (card c) (callOf now change)) .reply)
+    × ((a .core ≡ coreOf ((turnRule (card c) (callOf now change)) .card)) × ValidCore (a .core))
+
+answer-one : (c : Core) (now : Moment) (change : Change) (a b : Answer) → Promise c now change a → Promise c now change b → a ≡ b
+answer-one c now change a b p q = whole-answer c now change a (p .0) (p .1 .0) ∙ sym (whole-answer c now change b (q .0) (q .1 .0))
+
 pub turn-one : OneReply 0 turn.ps turn.r turn-promise.Post
-turn-one κs args a b x y p q = p .0 ∙ sym (q .0)
+turn-one κs args a b x y p q = answer-one (args .0) (args .1 .0) (args .1 .1 .0) a b p q
 
 pub admit-one : OneReply 0 admit.ps admit.r admit-promise.Post
-admit-one κs args a b x y p q = p .0 ∙ sym (q .0)
+admit-one κs args a b x y p q = answer-one (args .0) (args .1 .0) (Admit (args .1 .1 .0)) a b p q
 
 pub wake-one : OneReply 0 wake.ps wake.r wake-promise.Post
-wake-one κs args a b x y p q = p .0 ∙ sym (q .0)
+wake-one κs args a b x y p q = answer-one (args .0) (args .1 .0) (Wake (args .1 .1 .0)) a b p q
 
 pub block-one : OneReply 0 block.ps block.r block-promise.Post
-block-one κs args a b x y p q = p .0 ∙ sym (q .0)
+block-one κs args a b x y p q = answer-one (args .0) (args .1 .0) (Block (args .1 .1 .0)) a b p q
 
 pub remove-one : OneReply 0 remove.ps remove.r remove-promise.Post
-remove-one κs args a b x y p q = p .0 ∙ sym (q .0)
+remove-one κs args a b x y p q = answer-one (args .0) (args .1 .0) (Remove (args .1 .1 .0)) a b p q
 
 pub tick-one : OneReply 0 tick.ps tick.r tick-promise.Post
-tick-one κs args a b x y p q = p .0 ∙ sym (q .0)
+tick-one κs args a b x y p q = answer-one (args .0) (args .1 .0) Tick a b p q
 
 pub look-one : OneReply 0 look.ps look.r look-promise.Post
 look-one κs args a b x y p q = p ∙ sym q
 
 pub status-one : OneReply 0 status.ps status.r status-promise.Post
-status-one κs args a b x y p q = p ∙ sym q
+status-one κs args a b x y p q =
+    same-status a b (p .0 .0 ∙ sym (q .0 .0)) (p .0 .1 ∙ sym (q .0 .1)) (p .1 .0 ∙ sym (q .1 .0)) (p .1 .1 ∙ sym (q .1 .1))

@@ -1,11 +1,13 @@
--- Each reply and its number and values on paper are one another's: nothing is said twice, and nothing is lost. Assumes nothing.
+-- Each reply and its number and values on paper are one another's: nothing is said twice, and nothing is lost. So what the calls and
+-- the status promise on paper fixes the whole answer. Assumes nothing.
 use Prim.Native.Nat.{ℕ}
-use mathlib.Core.Path.{_≡_, refl, ap}
+use mathlib.Core.Path.{_≡_, refl, ap, sym, _∙_}
 use mathlib.Core.Option.{Option, none, some}
+use Rattle.units.specs.declared.Moment.{Moment}
 use Rattle.units.specs.Units.{moment, amount}
 use Rattle.rules.specs.Turn.{Reply as Said}
 use Rattle.rules.specs.Turn.{Report as Told}
-use Rattle.rules.specs.Turn.{ok, refused}
+use Rattle.rules.specs.Turn.{ok, refused, turn}
 use Rattle.turns.specs.declared.Holder.{Holder}
 use Rattle.turns.specs.declared.Holder.the-variants.{Idle}
 use Rattle.turns.specs.declared.Holder.the-variants.{Vcpu as Held}
@@ -14,20 +16,35 @@ use Rattle.turns.specs.declared.Timer.the-variants.{Unset, At}
 use Rattle.turns.specs.declared.Report.{Report}
 use Rattle.turns.specs.declared.Reply.{Reply}
 use Rattle.turns.specs.declared.Reply.the-variants.{Done, No}
-use Rattle.turns.specs.Calls.{paperHolder, paperTimer, paperReply, holderSaid, timerSaid, replySaid}
+use Rattle.turns.specs.declared.Answer.{Answer}
+use Rattle.turns.specs.declared.Change.{Change}
+use Rattle.turns.specs.declared.Core.{Core}
+use Rattle.turns.specs.declared.Status.{Status}
+use Rattle.turns.specs.Written.{card, coreOf}
+use Rattle.turns.specs.Calls.{callOf, paperHolder, paperTimer, paperReply, holderSaid, timerSaid, replySaid, turned}
+
+pub paper-holder : (o : Option ℕ) → paperHolder (holderSaid o) ≡ o
+paper-holder none = refl
+paper-holder (some t) = refl
+
+pub paper-timer : (o : Option ℕ) → paperTimer (timerSaid o) ≡ o
+paper-timer none = refl
+paper-timer (some t) = refl
+
+holder-paper : (h : Holder) → holderSaid (paperHolder h) ≡ h
+holder-paper Idle = refl
+holder-paper (Held t) = refl
+
+timer-paper : (t : Timer) → timerSaid (paperTimer t) ≡ t
+timer-paper Unset = refl
+timer-paper (At m) = refl
 
 -- what is said has the paper's number and values
 pub paper-said : (s : Said) → paperReply (replySaid s) ≡ s
-paper-said (ok r) = ap ok (same (paperHolder (holderSaid (r .run))) (r .run) (paperTimer (timerSaid (r .timer))) (r .timer) (holder (r .run)) (time (r .timer)))
+paper-said (ok r) =
+    ap ok (same (paperHolder (holderSaid (r .run))) (r .run) (paperTimer (timerSaid (r .timer))) (r .timer)
+    (paper-holder (r .run)) (paper-timer (r .timer)))
   where
-    holder : (o : Option ℕ) → paperHolder (holderSaid o) ≡ o
-    holder none = refl
-    holder (some t) = refl
-
-    time : (o : Option ℕ) → paperTimer (timerSaid o) ≡ o
-    time none = refl
-    time (some t) = refl
-
     same : (a a′ b b′ : Option ℕ) → a ≡ a′ → b ≡ b′
         → _≡_ {A = Told} (record { time = r .time; run = a; usable = r .usable; timer = b })
         (record { time = r .time; run = a′; usable = r .usable; timer = b′ })
@@ -36,18 +53,37 @@ paper-said (refused x) = refl
 
 -- and what is on paper is said again
 pub said-paper : (r : Reply) → replySaid (paperReply r) ≡ r
-said-paper (Done r) = ap Done (same (holderSaid (paperHolder (r .run))) (r .run) (timerSaid (paperTimer (r .timer))) (r .timer) (holder (r .run)) (time (r .timer)))
+said-paper (Done r) =
+    ap Done (same (holderSaid (paperHolder (r .run))) (r .run) (timerSaid (paperTimer (r .timer))) (r .timer)
+    (holder-paper (r .run)) (timer-paper (r .timer)))
   where
-    holder : (h : Holder) → holderSaid (paperHolder h) ≡ h
-    holder Idle = refl
-    holder (Held t) = refl
-
-    time : (t : Timer) → timerSaid (paperTimer t) ≡ t
-    time Unset = refl
-    time (At m) = refl
-
     same : (a a′ : Holder) (b b′ : Timer) → a ≡ a′ → b ≡ b′
         → _≡_ {A = Report} (record { time = moment (r .time .0); run = a; usable = amount (r .usable .0); timer = b })
         (record { time = r .time; run = a′; usable = r .usable; timer = b′ })
     same a a′ b b′ p q = rw (p, q)
 said-paper (No x) = refl
+
+-- what a call promises fixes its whole answer
+pub whole-answer : (c : Core) (now : Moment) (change : Change) (a : Answer)
+    → paperReply (a .reply) ≡ (turn (card c) (callOf now change)) .reply
+    → a .core ≡ coreOf ((turn (card c) (callOf now change)) .card)
+    → a ≡ turned c now change
+unfolding turned
+whole-answer c now change a p q = same (a .core) _ (a .reply) _ q (sym (said-paper (a .reply)) ∙ ap replySaid p)
+  where
+    same : (k k′ : Core) (r r′ : Reply) → k ≡ k′ → r ≡ r′
+        → _≡_ {A = Answer} (record { core = k; reply = r }) (record { core = k′; reply = r′ })
+    same k k′ r r′ p q = rw (p, q)
+
+-- and what the status promises, the whole status
+pub same-status : (a b : Status) → a .time .0 ≡ b .time .0 → paperHolder (a .run) ≡ paperHolder (b .run)
+    → paperTimer (a .timer) ≡ paperTimer (b .timer) → a .vcpus ≡ b .vcpus → a ≡ b
+same-status a b t h s n =
+    same (a .time .0) (b .time .0) (a .run) (b .run) (a .timer) (b .timer) (a .vcpus) (b .vcpus) t
+    (sym (holder-paper (a .run)) ∙ ap holderSaid h ∙ holder-paper (b .run))
+    (sym (timer-paper (a .timer)) ∙ ap timerSaid s ∙ timer-paper (b .timer)) n
+  where
+    same : (t t′ : ℕ) (h h′ : Holder) (s s′ : Timer) (n n′ : ℕ) → t ≡ t′ → h ≡ h′ → s ≡ s′ → n ≡ n′
+        → _≡_ {A = Status} (record { time = moment t; run = h; timer = s; vcpus = n })
+        (record { time = moment t′; run = h′; timer = s′; vcpus = n′ })
+    same t t′ h h′ s s′ n n′ p q v w = rw (p, q, v, w)

@@ -18,18 +18,16 @@ use Rattle.rules.specs.Card.{onCard, find}
 use Rattle.rules.proofs.Tests.{clash}
 use Rattle.turns.specs.declared.Vcpu.{Vcpu}
 use Rattle.turns.specs.declared.Core.{Core}
-use Rattle.turns.specs.declared.Holder.{Holder}
 use Rattle.turns.specs.declared.Holder.the-variants.{Vcpu as Held}
 use Rattle.turns.specs.declared.Holder.the-variants.{Idle as Idle′}
-use Rattle.turns.specs.declared.Timer.{Timer}
-use Rattle.turns.specs.declared.Status.{Status}
-use Rattle.turns.specs.Written.{idle, nobody, tunnelOf, written, noTenant, card, place, runningAt, timerAt}
+use Rattle.turns.specs.Written.{idle, nobody, tunnelOf, written, noTenant, card, place, runningAt}
 use Rattle.turns.proofs.Invariant.{SoundCore, between}
 use Rattle.turns.specs.Table.{seek, holderOf}
-use Rattle.turns.specs.Calls.{holderSaid, timerSaid, statusOf}
+use Rattle.turns.specs.Calls.{holderSaid, paperHolder}
 use Rattle.turns.proofs.Laid.{laid-get, laid-length}
 use Rattle.turns.proofs.Places.{place-there, seek-laid}
 use Rattle.rules.proofs.Lists.{all-imp}
+use Rattle.turns.proofs.Paper.{paper-holder}
 use Rattle.turns.proofs.Stage.{places-are, ids-are, n-is}
 
 find-wide : (t : ℕ) (vs : List Tenant) → largestTunnel < t → All (λ v. v .terms .tunnel ≤ largestTunnel) vs → find t vs ≡ none
@@ -100,16 +98,12 @@ holder-shown ids at l = go (ltb at idle) refl
     go true e = ap Held (in-range ids at (tunnel 0) (tunnel nobody) (omega (arith, ltb-true at idle e)))
     go false e = refl
 
-pub status-shown : (c : Core) → SoundCore c → (h : Holder) → h ≡ holderOf (c .ids) (c .running) → (s : Timer) → s ≡ timerSaid (timerAt (c .timer .0))
-    → _≡_ {A = Status} (record { time = c .last; run = h; timer = s; vcpus = c .n }) (statusOf (card c))
+-- who holds the core, on paper
+pub holder-paper : (c : Core) → SoundCore c → paperHolder (holderOf (c .ids) (c .running)) ≡ card c .running
 unfolding card
-status-shown c r h he s se =
-    same h (holderSaid (runningAt (c .running) (c .ids))) s (timerSaid (timerAt (c .timer .0))) (c .n) (length (card c .vcpus))
-    (he ∙ holder-shown (c .ids) (c .running) (ap length (ids-are c r) ∙ laid-length tunnelOf (tunnel nobody) 32 (card c .vcpus))) se (n-is c r)
-  where
-    same : (h h′ : Holder) (s s′ : Timer) (n n′ : ℕ) → h ≡ h′ → s ≡ s′ → n ≡ n′ → _≡_ {A = Status}
-        (record { time = c .last; run = h; timer = s; vcpus = n }) (record { time = c .last; run = h′; timer = s′; vcpus = n′ })
-    same h h′ s s′ n n′ p q v = rw (p, q, v)
+holder-paper c r =
+    ap paperHolder (holder-shown (c .ids) (c .running) (ap length (ids-are c r) ∙ laid-length tunnelOf (tunnel nobody) 32 (card c .vcpus)))
+    ∙ paper-holder (runningAt (c .running) (c .ids))
 
 -- what a read of a place past the end would give
 abbrev pub unread : Vcpu

@@ -3,12 +3,10 @@
 use Prim.Native.Nat.{ℕ}
 use mathlib.Core.Bool.{true, false}
 use mathlib.Core.Option.{Option, none, some}
-use lib.ListN.{length}
 use Rattle.units.specs.Units.{moment, amount, tunnel}
 use Rattle.units.specs.declared.Moment.{Moment}
 use Rattle.rules.specs.Vcpu.{Description as Terms}
 use Rattle.rules.specs.Vcpu.{Vcpu as Tenant}
-use Rattle.rules.specs.Card.{Card}
 use Rattle.rules.specs.Change.{admit, wake, block, remove, tick}
 use Rattle.rules.specs.Change.{Change as Asked}
 use Rattle.rules.specs.Turn.{Call, ok, refused, turn}
@@ -29,7 +27,6 @@ use Rattle.turns.specs.declared.Reply.the-variants.{Done, No}
 use Rattle.turns.specs.declared.Answer.{Answer}
 use Rattle.turns.specs.declared.Core.{Core}
 use Rattle.turns.specs.declared.Look.{Look}
-use Rattle.turns.specs.declared.Status.{Status}
 use Rattle.turns.specs.Written.{written, noTenant, card, coreOf}
 
 abbrev pub described : Description → Terms
@@ -88,7 +85,3 @@ turned c now change = answerOf (turn (card c) (callOf now change))
 abbrev pub looked : Option Tenant → Look
 looked none = record { there = false; vcpu = written noTenant }
 looked (some v) = record { there = true; vcpu = written v }
-
-abbrev pub statusOf : Card → Status
-statusOf k =
-    record { time = moment (k .last); run = holderSaid (k .running); timer = timerSaid (k .timer); vcpus = length (k .vcpus) }

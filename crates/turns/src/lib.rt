@@ -8,11 +8,13 @@ use units::LAST_MOMENT;
 use units::Moment;
 use units::Tunnel;
 ghost use mathlib.Core.Path.{_≡_};
+ghost use lib.ListN.{length};
 ghost use Rattle.rules.specs.Card.{empty as emptyCard};
 ghost use Rattle.rules.specs.Card.{find as findRule};
+ghost use Rattle.rules.specs.Turn.{turn as turnRule};
 ghost use Rattle.turns.specs.Written.{card, coreOf};
 ghost use Rattle.turns.specs.State.{ValidCore};
-ghost use Rattle.turns.specs.Calls.{turned, looked, statusOf};
+ghost use Rattle.turns.specs.Calls.{callOf, paperReply, paperHolder, paperTimer, looked};
 
 // The limits of the card.
 pub const LARGEST_TIME: u64 = 1000000000000;
@@ -154,7 +156,8 @@ impl Core {
     // One function for the five calls, with its loops and the table in it: a function that takes the table costs a copy of it.
     pub fn turn(self, now: Moment, change: Change) -> Answer
         requires { ⌜ ValidCore self ⌝ }
-        ensures { λ r. ⌜ (r ≡ turned self now change) × ValidCore (r .core) ⌝ }
+        ensures { λ r. ⌜ paperReply (r .reply) ≡ (turnRule (card self) (callOf now change)) .reply ⌝ }
+        ensures { λ r. ⌜ (r .core ≡ coreOf ((turnRule (card self) (callOf now change)) .card)) × ValidCore (r .core) ⌝ }
     {
         let last = self.last;
         let mut ids = self.ids;
@@ -248,35 +251,40 @@ impl Core {
 
     pub fn admit(self, now: Moment, description: Description) -> Answer
         requires { ⌜ ValidCore self ⌝ }
-        ensures { λ r. ⌜ (r ≡ turned self now (Change.Admit description)) × ValidCore (r .core) ⌝ }
+        ensures { λ r. ⌜ paperReply (r .reply) ≡ (turnRule (card self) (callOf now (Change.Admit description))) .reply ⌝ }
+        ensures { λ r. ⌜ (r .core ≡ coreOf ((turnRule (card self) (callOf now (Change.Admit description))) .card)) × ValidCore (r .core) ⌝ }
     {
         self.turn(now, Change::Admit(description))
     }
 
     pub fn wake(self, now: Moment, id: Tunnel) -> Answer
         requires { ⌜ ValidCore self ⌝ }
-        ensures { λ r. ⌜ (r ≡ turned self now (Change.Wake id)) × ValidCore (r .core) ⌝ }
+        ensures { λ r. ⌜ paperReply (r .reply) ≡ (turnRule (card self) (callOf now (Change.Wake id))) .reply ⌝ }
+        ensures { λ r. ⌜ (r .core ≡ coreOf ((turnRule (card self) (callOf now (Change.Wake id))) .card)) × ValidCore (r .core) ⌝ }
     {
         self.turn(now, Change::Wake(id))
     }
 
     pub fn block(self, now: Moment, id: Tunnel) -> Answer
         requires { ⌜ ValidCore self ⌝ }
-        ensures { λ r. ⌜ (r ≡ turned self now (Change.Block id)) × ValidCore (r .core) ⌝ }
+        ensures { λ r. ⌜ paperReply (r .reply) ≡ (turnRule (card self) (callOf now (Change.Block id))) .reply ⌝ }
+        ensures { λ r. ⌜ (r .core ≡ coreOf ((turnRule (card self) (callOf now (Change.Block id))) .card)) × ValidCore (r .core) ⌝ }
     {
         self.turn(now, Change::Block(id))
     }
 
     pub fn remove(self, now: Moment, id: Tunnel) -> Answer
         requires { ⌜ ValidCore self ⌝ }
-        ensures { λ r. ⌜ (r ≡ turned self now (Change.Remove id)) × ValidCore (r .core) ⌝ }
+        ensures { λ r. ⌜ paperReply (r .reply) ≡ (turnRule (card self) (callOf now (Change.Remove id))) .reply ⌝ }
+        ensures { λ r. ⌜ (r .core ≡ coreOf ((turnRule (card self) (callOf now (Change.Remove id))) .card)) × ValidCore (r .core) ⌝ }
     {
         self.turn(now, Change::Remove(id))
     }
 
     pub fn tick(self, now: Moment) -> Answer
         requires { ⌜ ValidCore self ⌝ }
-        ensures { λ r. ⌜ (r ≡ turned self now Change.Tick) × ValidCore (r .core) ⌝ }
+        ensures { λ r. ⌜ paperReply (r .reply) ≡ (turnRule (card self) (callOf now Change.Tick)) .reply ⌝ }
+        ensures { λ r. ⌜ (r .core ≡ coreOf ((turnRule (card self) (callOf now Change.Tick)) .card)) × ValidCore (r .core) ⌝ }
     {
         self.turn(now, Change::Tick)
     }
@@ -304,7 +312,8 @@ impl Core {
 
     pub fn status(self) -> Status
         requires { ⌜ ValidCore self ⌝ }
-        ensures { λ r. ⌜ r ≡ statusOf (card self) ⌝ }
+        ensures { λ r. ⌜ (r .time .0 ≡ card self .last) × (paperHolder (r .run) ≡ card self .running) ⌝ }
+        ensures { λ r. ⌜ (paperTimer (r .timer) ≡ card self .timer) × (r .vcpus ≡ length (card self .vcpus)) ⌝ }
     {
         let ids = self.ids;
         let time = self.last;

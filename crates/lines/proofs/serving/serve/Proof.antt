@@ -6,6 +6,7 @@ use lib.Seq.{take-all}
 use lib.ListN.{length, drop, length-drop}
 use borrow.Author.Needs.{needs}
 use Rattle.turns.specs.Calls.{turned}
+use Rattle.turns.proofs.Paper.{whole-answer}
 use Rattle.units.specs.declared.Moment.{Moment}
 use Rattle.turns.specs.declared.Refusal.{Refusal}
 use Rattle.records.specs.declared.answers.Read.the-variants.{Event as Got, No}
@@ -135,10 +136,10 @@ loop-again c =
     let a = c .before .before .before .before .before .before .before .before .before .before .before .before .before .before .before .before .before .before .args in
     let core = l .answer .core in
     let asked : c .before .before .before .before .before .turn .result ≡ turned core (timeOf e) (changeOf e) =
-    t .0 ∙ ap (λ (m : Moment). turned core m (c .before .before .before .before .before .before .change-of .result)) (c .before .before .before .before .before .before .before .time-of .ensures) ∙ ap (turned core (timeOf e)) (c .before .before .before .before .before .before .change-of .ensures) in
+    whole-answer _ _ _ _ (t .0) (t .1 .0) ∙ ap (λ (m : Moment). turned core m (c .before .before .before .before .before .before .change-of .result)) (c .before .before .before .before .before .before .before .time-of .ensures) ∙ ap (turned core (timeOf e)) (c .before .before .before .before .before .before .change-of .ensures) in
     subst (λ (k : ℕ). Going input (a .last) (a .core) (a .out .now) (c .before .before .before .before .before .turn .result .core) (l .used + k) (c .before .before .before .put-line2 .result) (c .before .before .before .put-line2 .last .0)) (sym n)
     (going-next input (a .last) (a .core) (a .out .now) core (l .used) (l .written) (l .out) (l .inv) e (c .before .before .before .before .before .turn .result) _ _
-    (c .before .before .before .before .before .before .before .before .before .before .before .before .before .before .loop-test .taken) (c .before .before .before .before .before .before .before .before .before .before .before .before .before .if1 .left) h asked (t .1) (p .0) (p .1))
+    (c .before .before .before .before .before .before .before .before .before .before .before .before .before .before .loop-test .taken) (c .before .before .before .before .before .before .before .before .before .before .before .before .before .if1 .left) h asked (t .1 .1) (p .0) (p .1))
 
 same-length-4 : tie.Need-same-length-4 Inv-loop μ-loop
 same-length-4 c = c .before .before .loop .inv .size

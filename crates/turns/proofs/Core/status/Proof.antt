@@ -1,7 +1,14 @@
 -- `turns::Core::status` meets its contract: the fields say what the card shows.
 -- Assumes nothing.
 use Rattle.turns.proofs.Made.{sound}
-use Rattle.turns.proofs.Questions.{status-shown}
+use Rattle.turns.proofs.Questions.{holder-paper}
+use Rattle.turns.proofs.Paper.{paper-timer}
+use Rattle.turns.proofs.Stage.{n-is}
+use Rattle.turns.specs.Calls.{paperHolder, paperTimer}
+use Rattle.turns.specs.Written.{card, timerAt}
+use mathlib.Core.Path.{refl, ap, _∙_}
+use Rattle.turns.specs.declared.Core.{Core}
+use Rattle.turns.proofs.Invariant.{SoundCore}
 use borrow.Author.Needs.{needs}
 use Rattle.turns.proofs.Core.status.Statement.{statement}
 use Rattle.turns.proofs.Core.status.Tie as tie
@@ -12,9 +19,22 @@ holder-requires c κs = search needs
 timer-said-requires : tie.Need-timer-said-requires
 timer-said-requires c κs = search needs
 
+-- the end of the call
+abbrev E : Type 0
+E = tie.After-timer-said
+
+abbrev core : E → Core
+core c = c .before .before .before .before .before .args .self
+
+valid : (c : E) → SoundCore (core c)
+valid c = sound (core c) (c .before .before .before .before .before .pre)
+
 returns : tie.Need-returns
-returns c = status-shown (c .before .before .before .before .before .args .self) (sound _ (c .before .before .before .before .before .pre))
-    (c .before .holder .result) (c .before .holder .ensures) (c .timer-said .result) (c .timer-said .ensures)
+unfolding card
+returns c = (
+  (refl, ap paperHolder (c .before .holder .ensures) ∙ holder-paper (core c) (valid c)),
+  (ap paperTimer (c .timer-said .ensures) ∙ paper-timer (timerAt (core c .timer .0)), n-is (core c) (valid c)),
+)
 
 pub status-spec : {M : Type 1} → statement M
 status-spec = tie.close (tie.spec holder-requires timer-said-requires returns)

@@ -8,14 +8,14 @@ use Rattle.units.specs.declared.Tunnel.{Tunnel}
 use Rattle.rules.specs.Vcpu.{admitted}
 use Rattle.rules.specs.Vcpu.{Vcpu as Tenant}
 use Rattle.rules.specs.Refuse.{refusal, callRows}
-use Rattle.rules.specs.Turn.{afterCharge, afterReturn, ok, report, settled}
+use Rattle.rules.specs.Turn.{afterCharge, afterReturn, ok, report, settled, turn}
 use Rattle.turns.specs.declared.Vcpu.{Vcpu}
 use Rattle.turns.specs.declared.Core.{Core}
 use Rattle.turns.specs.declared.Change.{Change}
-use Rattle.turns.specs.Written.{card, written, noTenant, nobody, place, never}
+use Rattle.turns.specs.Written.{card, coreOf, written, noTenant, nobody, place, never}
 use Rattle.turns.proofs.Invariant.{SoundCore, Between, Listed, Fits, between}
 use Rattle.turns.specs.Steps.{Chargeable, picks, chargedOf}
-use Rattle.turns.specs.Calls.{asked, described, answerOf, turned}
+use Rattle.turns.specs.Calls.{asked, described, answerOf, callOf, paperReply}
 use Rattle.turns.specs.State.{ValidCore}
 use Rattle.rules.specs.Limits.{largestTime}
 use Rattle.rules.specs.Lists.{All}
@@ -273,6 +273,9 @@ core-of c = c .before .before .before .before .before .before .before .before .b
 abbrev asked-at : R → Moment
 asked-at c = c .before .before .before .before .before .before .before .before .before .before .before .before .before .before .before .before .before .before .before .args .now
 
+abbrev change-at : R → Change
+change-at c = c .before .before .before .before .before .before .before .before .before .before .before .before .before .before .before .before .before .before .before .args .change
+
 time-of : (c : R) → asked-at c .0 ≤ largestTime
 time-of c = meets (c .before .before .before .before .before .before .before .before .before .before .before .before) .not-above
 
@@ -327,7 +330,8 @@ answered-there c =
     (c .before .holder .ensures) (c .timer-said .result) (c .timer-said .ensures)
 
 turned-there : (c : R) (a : Answer) → a ≡ answer-of c
-    → (a ≡ turned (core-of c) (asked-at c) (c .before .before .before .before .before .before .before .before .before .before .before .before .before .before .before .before .before .before .before .args .change)) × ValidCore (a .core)
+    → (paperReply (a .reply) ≡ (turn (card (core-of c)) (callOf (asked-at c) (change-at c))) .reply)
+    × ((a .core ≡ coreOf ((turn (card (core-of c)) (callOf (asked-at c) (change-at c))) .card)) × ValidCore (a .core))
 turned-there c a e =
     one-more (core-of c) (asked-at c) (c .before .before .before .before .before .before .before .before .before .before .before .before .before .before .before .before .before .before .before .args .change) (c .before .before .before .before .before .before .before .before .before .before .before .before .before .before .before .before .before .before .before .pre) a
     (e ∙ answered-there c ∙ sym (turned-accepted (core-of c) (asked-at c) (c .before .before .before .before .before .before .before .before .before .before .before .before .before .before .before .before .before .before .before .args .change)
