@@ -16,4 +16,5 @@ pub mod Settle
 pub mod Questions
 pub mod Paper
 pub mod Made
+pub mod Promised
 pub mod OneReply

@@ -1,0 +1,150 @@
+-- Whatever calls a host made, all that specs/Promised says holds of its core and of the answer to one call more; and so of every core
+-- in a contract, and of every answer that the contract of a call allows. Assumes nothing.
+use Prim.Native.Nat.{ℕ}
+use mathlib.Core.Path.{_≡_, refl, ap, sym, _∙_, subst}
+use mathlib.Core.List.{List, [], _∷_}
+use mathlib.Core.Option.{Option, none, some}
+use native.Mathlib.Omega.{arith}
+use Rattle.units.specs.declared.Moment.{Moment}
+use Rattle.rules.specs.Lists.{All}
+use Rattle.rules.specs.Vcpu.{Vcpu as Tenant}
+use Rattle.rules.specs.Card.{Card}
+use Rattle.rules.specs.Refuse.{refusal}
+use Rattle.rules.specs.Refuse.{Refusal as Row}
+use Rattle.rules.specs.Turn.{Call, turn, accepted, report, ok, refused}
+use Rattle.rules.specs.Turn.{Report as Told}
+use Rattle.rules.specs.Turn.{Reply as Said}
+use Rattle.rules.specs.Meaning.{Meaning}
+use Rattle.rules.specs.Rows.{Table, NoRow}
+use Rattle.rules.specs.Budgets.{Budgets}
+use Rattle.rules.specs.Marks.{Marks}
+use Rattle.rules.specs.History.{Exchange, after, heard}
+use Rattle.rules.specs.Demand3.{ItsStay}
+use Rattle.rules.proofs.Rows.{table}
+use Rattle.rules.proofs.Marks.{marks}
+use Rattle.rules.proofs.Budgets.{budgets}
+use Rattle.rules.proofs.Meaning.{meaning}
+use Rattle.rules.proofs.Demand3.{demand3}
+use Rattle.rules.proofs.Reached.{card-accepted, reply-accepted, reply-refused}
+use Rattle.turns.specs.declared.Change.{Change}
+use Rattle.turns.specs.declared.Core.{Core}
+use Rattle.turns.specs.declared.Report.{Report}
+use Rattle.turns.specs.declared.Reply.{Reply}
+use Rattle.turns.specs.declared.Reply.the-variants.{Done, No}
+use Rattle.turns.specs.declared.Answer.{Answer}
+use Rattle.turns.specs.Written.{card, coreOf}
+use Rattle.turns.specs.Calls.{asked, callOf, paperReply, replySaid, reportSaid, turned}
+use Rattle.turns.specs.State.{Asking, made, callsOf, ValidCore}
+use Rattle.turns.specs.Promised.{exchanges, Accepted, Next, Promised}
+use Rattle.turns.proofs.Paper.{paper-said, said-paper, whole-answer}
+use Rattle.turns.proofs.Made.{kept, tied}
+
+-- one call more
+module _ (calls : List Asking) (now : Moment) (change : Change) where
+  abbrev call : Call
+  call = callOf now change
+
+  abbrev old : Card
+  old = card (made calls)
+
+  abbrev answer : Answer
+  answer = turned (made calls) now change
+
+  -- the reply's number and values are the rules'
+  paper : paperReply (answer .reply) ≡ (turn old call) .reply
+  unfolding turned
+  paper = paper-said ((turn old call) .reply)
+
+  replied : (r : Reply) → (turn old call) .reply ≡ paperReply r → answer .reply ≡ r
+  replied r e = sym (said-paper (answer .reply)) ∙ ap replySaid (paper ∙ e) ∙ said-paper r
+
+  -- an accepted reply is the report after the five steps
+  reported : (r : Report) → answer .reply ≡ Done r → refusal old (call .now) (call .asked) ≡ none
+  reported r e = go (refusal old (call .now) (call .asked)) refl
+    where
+      go : (o : Option Row) → refusal old (call .now) (call .asked) ≡ o → o ≡ none
+      go none f = refl
+      go (some x) f =
+          let clash : paperReply (Done r) ≡ refused x = ap paperReply (sym e) ∙ paper ∙ reply-refused old call x f in
+          let z : _≡_ {A = ℕ} 0 1 = cc in
+          absurd (omega arith)
+
+  told-so : (r : Report) → answer .reply ≡ Done r → (turn old call) .reply ≡ ok (report (accepted old call))
+  told-so r e = reply-accepted old call (reported r e)
+
+  no-row : (r : Report) → answer .reply ≡ Done r → NoRow old call
+  no-row r e = (table old call .accepts) .0 (told-so r e)
+
+  shown : card (answer .core) ≡ (turn old call) .card
+  shown = kept (made calls) (tied calls .sound) now change .shows
+
+  -- a fact of the VCPUs before and after, carried from the rules' cards to those shown
+  carried : (P : Card → List Tenant → Type 0) → P (after (callsOf calls)) (after (call ∷ callsOf calls) .vcpus) → P old (card (answer .core) .vcpus)
+  carried P p =
+      subst (λ (k : Card). P old (k .vcpus)) (sym shown)
+      (subst (λ (k : Card). P k ((turn k call) .card .vcpus)) (sym (tied calls .shows)) p)
+
+  none-after : NoRow old call → NoRow (after (callsOf calls)) call
+  none-after n = subst (λ (k : Card). NoRow k call) (tied calls .shows) n
+
+  next : Next (made calls) now change answer
+  unfolding turned
+  next =
+      record {
+        refuses = λ x. (
+          λ e. (table old call .refuses (x .number) (x .detail)) .0 (sym paper ∙ ap paperReply e),
+          λ f. replied (No x) ((table old call .refuses (x .number) (x .detail)) .1 f),
+        );
+        hands-back = λ x e.
+            ap coreOf (table old call .hands-back (record { number = x .number; detail = x .detail }) (sym paper ∙ ap paperReply e))
+            ∙ sym (tied calls .sound .written);
+        accepts = (
+          λ r. no-row (r .0) (r .1),
+          λ n. (
+            reportSaid (report (accepted old call)),
+            replied (Done (reportSaid (report (accepted old call))))
+                ((table old call .accepts) .1 n ∙ sym (paper-said (ok (report (accepted old call))))),
+          ),
+        );
+        then = λ r e.
+            let steps : card (answer .core) ≡ accepted old call = shown ∙ card-accepted old call (reported r e) in
+            record {
+              five-steps = steps;
+              reports = paper ∙ told-so r e ∙ ap (λ (k : Card). ok (report k)) (sym steps);
+              budgets = carried (λ k vs. Budgets k call vs) (budgets (callsOf calls) call (none-after (no-row r e)));
+              marks = carried (λ k vs. Marks (k .vcpus) (asked change) vs) (marks (callsOf calls) call (none-after (no-row r e)));
+            };
+      }
+
+-- the calls and the replies that the code gives are those that demand 3 is told by
+told : (calls : List Asking) → exchanges calls ≡ heard (callsOf calls)
+told [] = refl
+told (a ∷ calls) =
+    same _ _ _ _ (paper calls (a .now) (a .change) ∙ ap (λ (k : Card). (turn k (callOf (a .now) (a .change))) .reply) (tied calls .shows)) (told calls)
+  where
+    same : (r r′ : Said) (l l′ : List Exchange) → r ≡ r′ → l ≡ l′
+        → record { call = callOf (a .now) (a .change); reply = r } ∷ l ≡ record { call = callOf (a .now) (a .change); reply = r′ } ∷ l′
+    same r r′ l l′ p q = rw (p, q)
+
+pub promised : (calls : List Asking) → Promised calls
+promised calls =
+    record {
+      shows = tied calls .shows;
+      is = tied calls .sound .written ∙ ap coreOf (tied calls .shows);
+      meaning = subst Meaning (sym (tied calls .shows)) (meaning (callsOf calls));
+      told = told calls;
+      demand3 = demand3 (callsOf calls);
+      every-vcpu =
+          subst (λ (l : List Exchange). All (ItsStay l) (card (made calls) .vcpus)) (sym (told calls))
+          (subst (λ (k : Card). All (ItsStay (heard (callsOf calls))) (k .vcpus)) (sym (tied calls .shows)) (demand3 (callsOf calls) .every-vcpu));
+      next = next calls;
+    }
+
+-- of a core in a contract, and of whatever answer the contract of a call allows
+pub next-answer : (c : Core) (v : ValidCore c) (now : Moment) (change : Change) (a : Answer)
+    → paperReply (a .reply) ≡ (turn (card c) (callOf now change)) .reply
+    → a .core ≡ coreOf ((turn (card c) (callOf now change)) .card)
+    → Next c now change a
+next-answer c v now change a p q =
+    subst (Next c now change) (sym (whole-answer c now change a p q))
+    (subst (λ (d : Core). Next d now change (turned d now change)) (sym (v .made-by)) (next (v .calls) now change))
