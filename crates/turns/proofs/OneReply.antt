@@ -11,7 +11,7 @@ use Rattle.turns.specs.declared.Core.{Core}
 use Rattle.turns.specs.Written.{card, coreOf}
 use Rattle.turns.specs.Calls.{callOf, paperReply}
 use Rattle.turns.specs.State.{ValidCore}
-use Rattle.turns.proofs.Paper.{whole-answer, same-status}
+use Rattle.turns.proofs.Paper.{whole-answer, same-status, same-look}
 use Rattle.turns.proofs.Core.empty.Kinds as empty
 use Rattle.turns.proofs.Core.empty.Reads as empty-promise
 use Rattle.turns.proofs.Core.turn.Kinds as turn
@@ -61,7 +61,7 @@ pub tick-one : OneReply 0 tick.ps tick.r tick-promise.Post
 tick-one κs args a b x y p q = answer-one (args .0) (args .1 .0) Tick a b p q
 
 pub look-one : OneReply 0 look.ps look.r look-promise.Post
-look-one κs args a b x y p q = p ∙ sym q
+look-one κs args a b x y p q = same-look a b (p .0 ∙ sym (q .0)) (p .1 ∙ sym (q .1))
 
 pub status-one : OneReply 0 status.ps status.r status-promise.Post
 status-one κs args a b x y p q =

@@ -1,5 +1,5 @@
--- Each reply and its number and values on paper are one another's: nothing is said twice, and nothing is lost. So what the calls and
--- the status promise on paper fixes the whole answer. Assumes nothing.
+-- Each reply and its number and values on paper are one another's: nothing is said twice, and nothing is lost. So what the calls, the
+-- look and the status promise on paper fixes the whole answer. Assumes nothing.
 use Prim.Native.Nat.{ℕ}
 use mathlib.Core.Path.{_≡_, refl, ap, sym, _∙_}
 use mathlib.Core.Option.{Option, none, some}
@@ -8,6 +8,7 @@ use Rattle.units.specs.Units.{moment, amount}
 use Rattle.rules.specs.Turn.{Reply as Said}
 use Rattle.rules.specs.Turn.{Report as Told}
 use Rattle.rules.specs.Turn.{ok, refused, turn}
+use Rattle.rules.proofs.Tests.{clash}
 use Rattle.turns.specs.declared.Holder.{Holder}
 use Rattle.turns.specs.declared.Holder.the-variants.{Idle}
 use Rattle.turns.specs.declared.Holder.the-variants.{Vcpu as Held}
@@ -19,9 +20,13 @@ use Rattle.turns.specs.declared.Reply.the-variants.{Done, No}
 use Rattle.turns.specs.declared.Answer.{Answer}
 use Rattle.turns.specs.declared.Change.{Change}
 use Rattle.turns.specs.declared.Core.{Core}
+use Rattle.turns.specs.declared.Look.{Look}
+use Rattle.turns.specs.declared.Presence.{Presence}
+use Rattle.turns.specs.declared.Presence.the-variants.{OnCard, Absent}
 use Rattle.turns.specs.declared.Status.{Status}
+use Rattle.turns.specs.declared.Vcpu.{Vcpu}
 use Rattle.turns.specs.Written.{card, coreOf}
-use Rattle.turns.specs.Calls.{callOf, paperHolder, paperTimer, paperReply, holderSaid, timerSaid, replySaid, turned}
+use Rattle.turns.specs.Calls.{callOf, holderSaid, paperHolder, paperPresence, paperReply, paperTimer, replySaid, timerSaid, turned}
 
 pub paper-holder : (o : Option ℕ) → paperHolder (holderSaid o) ≡ o
 paper-holder none = refl
@@ -87,3 +92,17 @@ same-status a b t h s n =
         → _≡_ {A = Status} (record { time = moment t; run = h; timer = s; vcpus = n })
         (record { time = moment t′; run = h′; timer = s′; vcpus = n′ })
     same t t′ h h′ s s′ n n′ p q v w = rw (p, q, v, w)
+
+-- what a look promises, the whole look
+same-presence : (a b : Presence) → paperPresence a ≡ paperPresence b → a ≡ b
+same-presence OnCard OnCard e = refl
+same-presence OnCard Absent e = clash e
+same-presence Absent OnCard e = clash (sym e)
+same-presence Absent Absent e = refl
+
+pub same-look : (a b : Look) → paperPresence (a .presence) ≡ paperPresence (b .presence) → a .vcpu ≡ b .vcpu → a ≡ b
+same-look a b p q = same (a .presence) (b .presence) (a .vcpu) (b .vcpu) (same-presence (a .presence) (b .presence) p) q
+  where
+    same : (x x′ : Presence) (v v′ : Vcpu) → x ≡ x′ → v ≡ v′
+        → _≡_ {A = Look} (record { presence = x; vcpu = v }) (record { presence = x′; vcpu = v′ })
+    same x x′ v v′ p q = rw (p, q)

@@ -23,16 +23,16 @@ use Rattle.turns.specs.declared.Holder.the-variants.{Idle as Idle′}
 use Rattle.turns.specs.Written.{idle, nobody, tunnelOf, written, noTenant, card, place, runningAt}
 use Rattle.turns.proofs.Invariant.{SoundCore, between}
 use Rattle.turns.specs.Table.{seek, holderOf}
-use Rattle.turns.specs.Calls.{holderSaid, paperHolder}
+use Rattle.turns.specs.Calls.{holderSaid, looked, paperHolder}
 use Rattle.turns.proofs.Laid.{laid-get, laid-length}
 use Rattle.turns.proofs.Places.{place-there, seek-laid}
 use Rattle.rules.proofs.Lists.{all-imp}
 use Rattle.turns.proofs.Paper.{paper-holder}
-use Rattle.turns.proofs.Stage.{places-are, ids-are, n-is}
+use Rattle.turns.proofs.Stage.{places-are, ids-are}
 
-find-wide : (t : ℕ) (vs : List Tenant) → largestTunnel < t → All (λ v. v .terms .tunnel ≤ largestTunnel) vs → find t vs ≡ none
-find-wide t [] h g = refl
-find-wide t (v ∷ vs) h g = rw (ne-eqb (v .terms .tunnel) t (omega (arith, g .0))) (find-wide t vs h (g .1))
+on-wide : (t : ℕ) (vs : List Tenant) → largestTunnel < t → All (λ v. v .terms .tunnel ≤ largestTunnel) vs → onCard t vs ≡ false
+on-wide t [] h g = refl
+on-wide t (v ∷ vs) h g = rw (ne-eqb (v .terms .tunnel) t (omega (arith, g .0))) (on-wide t vs h (g .1))
 
 find-there : (t : ℕ) (vs : List Tenant) → onCard t vs ≡ true → find t vs ≡ some (getD vs (place t vs) noTenant)
 find-there t [] e = clash (sym e)
@@ -51,40 +51,47 @@ find-absent t (v ∷ vs) e = go (named t v) e (find-absent t vs)
     go true f rec = clash f
     go false f rec = rec f
 
+-- what a look answers: whether the identifier is on the card, and the record
+pub record Sought (c : Core) (t : ℕ) (there : Bool) (v : Vcpu) : Type 0 where
+  pub present : there ≡ onCard t (card c .vcpus)
+  pub is : v ≡ looked (find t (card c .vcpus))
+
 module _ (c : Core) (r : SoundCore c) (t : ℕ) where
-  pub wide-none : largestTunnel < t → find t (card c .vcpus) ≡ none
-  wide-none h = find-wide t (card c .vcpus) h (all-imp (λ v g. g .range .tunnel-high) (card c .vcpus) (between c r .each))
+  abbrev vs : List Tenant
+  vs = card c .vcpus
 
-  sought : t ≤ largestTunnel → seek t (c .ids) ≡ cond (onCard t (card c .vcpus)) (place t (card c .vcpus)) 32
-  sought h = ap (seek t) (ids-are c r) ∙ seek-laid t 32 (card c .vcpus) h (between c r .few)
+  absent : onCard t vs ≡ false → Sought c t false (written noTenant)
+  absent e = record { present = sym e; is = ap looked (sym (find-absent t vs e)) }
 
-  pub look-there : (z : Vcpu) → t ≤ largestTunnel → seek t (c .ids) < 32
-      → find t (card c .vcpus) ≡ some (getD (card c .vcpus) (place t (card c .vcpus)) noTenant)
-      × getD (c .places) (seek t (c .ids)) z ≡ written (getD (card c .vcpus) (place t (card c .vcpus)) noTenant)
-  look-there z h g = go (onCard t (card c .vcpus)) refl
-    where
-      go : (b : Bool) → onCard t (card c .vcpus) ≡ b → (find t (card c .vcpus) ≡ some (getD (card c .vcpus) (place t (card c .vcpus)) noTenant)) ×
-          (getD (c .places) (seek t (c .ids)) z ≡ written (getD (card c .vcpus) (place t (card c .vcpus)) noTenant))
-      go true e =
-          let s : seek t (c .ids) ≡ place t (card c .vcpus) = sought h ∙ ap (λ (b : Bool). cond b (place t (card c .vcpus)) 32) e in (
-            find-there t (card c .vcpus) e,
-            ap (getD (c .places) (seek t (c .ids))) refl ∙ ap (λ (i : ℕ). getD (c .places) i z) s ∙ ap (λ (p : List Vcpu). getD p (place t
-                (card c .vcpus)) z) (places-are c r)
-                ∙ laid-get written (written noTenant) 32 (card c .vcpus) (place t (card c .vcpus)) noTenant z (place-there t (card c .vcpus) e)
-                (between c r .few),
-          )
-      go false e =
-          let s : seek t (c .ids) ≡ 32 = sought h ∙ ap (λ (b : Bool). cond b (place t (card c .vcpus)) 32) e in
-          absurd (omega arith)
+  pub wide-sought : largestTunnel < t → Sought c t false (written noTenant)
+  wide-sought h = absent (on-wide t vs h (all-imp (λ v g. g .range .tunnel-high) vs (between c r .each)))
 
-  pub look-absent : t ≤ largestTunnel → 32 ≤ seek t (c .ids) → find t (card c .vcpus) ≡ none
-  look-absent h g = go (onCard t (card c .vcpus)) refl
-    where
-      go : (b : Bool) → onCard t (card c .vcpus) ≡ b → find t (card c .vcpus) ≡ none
-      go true e =
-          let s : seek t (c .ids) ≡ place t (card c .vcpus) = sought h ∙ ap (λ (b : Bool). cond b (place t (card c .vcpus)) 32) e in
-          absurd (omega (arith, place-there t (card c .vcpus) e, between c r .few))
-      go false e = find-absent t (card c .vcpus) e
+  module _ (h : t ≤ largestTunnel) where
+    sought : (b : Bool) → onCard t vs ≡ b → seek t (c .ids) ≡ cond b (place t vs) 32
+    sought b e =
+        ap (seek t) (ids-are c r) ∙ seek-laid t 32 vs h (between c r .few) ∙ ap (λ (x : Bool). cond x (place t vs) 32) e
+
+    pub there-sought : (z : Vcpu) → seek t (c .ids) < 32 → Sought c t true (getD (c .places) (seek t (c .ids)) z)
+    there-sought z g = go (onCard t vs) refl
+      where
+        go : (b : Bool) → onCard t (card c .vcpus) ≡ b → Sought c t true (getD (c .places) (seek t (c .ids)) z)
+        go true e =
+            record {
+              present = sym e;
+              is =
+                  ap (λ (i : ℕ). getD (c .places) i z) (sought true e)
+                  ∙ ap (λ (p : List Vcpu). getD p (place t vs) z) (places-are c r)
+                  ∙ laid-get written (written noTenant) 32 vs (place t vs) noTenant z (place-there t vs e) (between c r .few)
+                  ∙ ap looked (sym (find-there t vs e));
+            }
+        go false e = absurd (omega (arith, sought false e))
+
+    pub absent-sought : 32 ≤ seek t (c .ids) → Sought c t false (written noTenant)
+    absent-sought g = go (onCard t vs) refl
+      where
+        go : (b : Bool) → onCard t (card c .vcpus) ≡ b → Sought c t false (written noTenant)
+        go true e = absurd (omega (arith, sought true e, place-there t vs e, between c r .few))
+        go false e = absent e
 
 in-range : {A : Type 0} (l : List A) (i : ℕ) (a b : A) → i < length l → getD l i a ≡ getD l i b
 in-range [] i a b h = absurd (omega arith)

@@ -1,4 +1,4 @@
--- The change on the written table: a newcomer put in, one taken out, a mark set. Assumes nothing.
+-- The change on the written table: a newcomer put in, a mark set, one taken out, or nothing. Assumes nothing.
 use Prim.Native.Nat.{ℕ, zero, suc, _+_, _-_, _≤_, _<_}
 use mathlib.Core.Path.{_≡_, refl, ap, sym, _∙_, subst}
 use mathlib.Core.Bool.{Bool, true, false, cond, not, _||_}
@@ -7,11 +7,6 @@ use mathlib.Core.Option.{none}
 use native.Mathlib.Omega.{arith}
 use lib.Dec.{eqb}
 use lib.ListN.{length, getD, set}
-use lib.Seq.{set-getD}
-use types.Run.{OneOf}
-use denote.Enum.Declared.{tagOf}
-use mathlib.Core.Logic.{_⊎_, inl, inr}
-use Rattle.turns.proofs.Change.{the-type}
 use Rattle.rules.specs.Refuse.{admitRows, namingRows, callRows}
 use Rattle.units.specs.Units.{tunnel}
 use Rattle.units.specs.declared.Tunnel.{Tunnel}
@@ -29,13 +24,13 @@ use Rattle.turns.specs.declared.Change.{Change}
 use Rattle.turns.specs.declared.Change.the-variants.{Admit, Wake, Block, Remove, Tick}
 use Rattle.turns.specs.Written.{nobody, tunnelOf, written, noTenant, place}
 use Rattle.turns.proofs.Invariant.{Ranked, Distinct, termsOf, Listed}
-use Rattle.turns.specs.Steps.{changedOf}
-use Rattle.turns.specs.Table.{spotIn, inserted, removed}
+use Rattle.turns.specs.Steps.{runnableAs}
+use Rattle.turns.specs.Table.{seek, namedAt, spotIn, inserted, removed}
 use Rattle.turns.specs.Calls.{described, asked}
 use Rattle.turns.proofs.Laid.{cutAt, laid-get, laid-put, laid-cut}
 use Rattle.turns.proofs.Places.{place-there, named-set, removed-cut, spotOf, spot-most, spot-laid, placed-put}
 use Rattle.turns.proofs.Ranked.{return-terms, named-terms, placed-ranked, keep-ranked}
-use Rattle.turns.proofs.Rows.{idsOf, placeNamed, there}
+use Rattle.turns.proofs.Rows.{idsOf, there, named-seek}
 use Rattle.rules.proofs.Accepted.{Admits, admits}
 use Rattle.rules.proofs.Advance.{rows-stepped}
 use Rattle.rules.proofs.Changed.{length-placed}
@@ -61,14 +56,14 @@ length-terms : (vs : List Tenant) → length vs ≡ length (termsOf vs)
 length-terms [] = refl
 length-terms (v ∷ vs) = ap suc (length-terms vs)
 
-pub return-place : (k : Card) (now t : ℕ) → place t (afterReturn k now) ≡ place t (k .vcpus)
+return-place : (k : Card) (now t : ℕ) → place t (afterReturn k now) ≡ place t (k .vcpus)
 return-place k now t = place-terms t (afterReturn k now) ∙ ap (placeTerms t) (return-terms k now) ∙ sym (place-terms t (k .vcpus))
 
 return-length : (k : Card) (now : ℕ) → length (afterReturn k now) ≡ length (k .vcpus)
 return-length k now = length-terms (afterReturn k now) ∙ ap length (return-terms k now) ∙ sym (length-terms (k .vcpus))
 
 -- steps 1 and 2 leave the table's length and its identifiers
-pub return-listed : (k : Card) (now : ℕ) → Listed (k .vcpus) → Listed (afterReturn k now)
+return-listed : (k : Card) (now : ℕ) → Listed (k .vcpus) → Listed (afterReturn k now)
 return-listed k now l =
     record { few = omega (arith, return-length k now, l .few); distinct = subst Distinct (sym (return-terms k now)) (l .distinct) }
 
@@ -80,10 +75,10 @@ module _ (p : List Vcpu) (ids : List Tunnel) (n : ℕ) (vs : List Tenant) (f : F
         rw (f .places, f .tunnels, f .count)
         (spot-laid (admitted (described d)) (written noTenant) (tunnel nobody) 32 vs (r .few))
 
-    pub spot-fits : spotIn (described d) n p ids ≤ 32
+    spot-fits : spotIn (described d) n p ids ≤ 32
     spot-fits = omega (arith, spot-is, spot-most (admitted (described d)) vs, r .few)
 
-    pub admit-filled :
+    admit-filled :
         Filled (inserted (spotIn (described d) n p ids) (written (admitted (described d))) p)
         (inserted (spotIn (described d) n p ids) (d .tunnel) ids) (n + 1) (placed (admitted (described d)) vs)
     admit-filled =
@@ -104,7 +99,7 @@ module _ (p : List Vcpu) (ids : List Tunnel) (n : ℕ) (vs : List Tenant) (f : F
         }
 
   module _ (t at : ℕ) (e : at ≡ place t vs) (h : place t vs < length vs) where
-    pub remove-filled : Filled (removed at (written noTenant) p) (removed at (tunnel nobody) ids) (n - 1) (keep (λ v. not (named t v)) vs)
+    remove-filled : Filled (removed at (written noTenant) p) (removed at (tunnel nobody) ids) (n - 1) (keep (λ v. not (named t v)) vs)
     remove-filled =
         record {
           places =
@@ -139,34 +134,16 @@ module _ (p : List Vcpu) (ids : List Tunnel) (n : ℕ) (vs : List Tenant) (f : F
         ∙ ap (λ (q : List Vcpu). getD q (place t vs) z) (f .places)
         ∙ laid-get written (written noTenant) 32 vs (place t vs) noTenant z h (r .few)
 
--- what a wake, a block and a tick do to a record
-wake-written : (v : Tenant) (t : Tunnel) → changedOf (written v) (Wake t) ≡ written (setRunnable true v)
-unfolding changedOf written
-wake-written v t = refl
-
-block-written : (v : Tenant) (t : Tunnel) → changedOf (written v) (Block t) ≡ written (setRunnable false v)
-unfolding changedOf written
-block-written v t = refl
-
-tick-same : (v : Vcpu) → changedOf v Tick ≡ v
-unfolding changedOf
-tick-same v = refl
-
--- a change that leaves every place where it is: by its tag a wake, a block or a tick
-never-tag : (n : ℕ) → (n ≡ 0) ⊎ (n ≡ 3) → OneOf (1 ∷ 2 ∷ 4 ∷ []) n → ⊥
-never-tag n (inl e) (inl f) = omega arith
-never-tag n (inl e) (inr (inl f)) = omega arith
-never-tag n (inl e) (inr (inr f)) = omega arith
-never-tag n (inr e) (inl f) = omega arith
-never-tag n (inr e) (inr (inl f)) = omega arith
-never-tag n (inr e) (inr (inr f)) = omega arith
+mark-written : (v : Tenant) (b : Bool) → runnableAs (written v) b ≡ written (setRunnable b v)
+unfolding written
+mark-written v b = refl
 
 -- what an accepted call asks for holds after steps 1 and 2 too
 module _ (k : Card) (now : ℕ) where
-  pub named-place : (t : ℕ) → namingRows (k .vcpus) t ≡ none → place t (afterReturn k now) < length (afterReturn k now)
+  named-place : (t : ℕ) → namingRows (k .vcpus) t ≡ none → place t (afterReturn k now) < length (afterReturn k now)
   named-place t e = place-there t (afterReturn k now) (there (afterReturn k now) t (rows-stepped k now (wake t) ∙ e))
 
-  pub admits-after : (d : Description) → admitRows (k .vcpus) (described d) ≡ none → Admits (afterReturn k now) (described d)
+  admits-after : (d : Description) → admitRows (k .vcpus) (described d) ≡ none → Admits (afterReturn k now) (described d)
   admits-after d e = admits (afterReturn k now) (described d) (rows-stepped k now (admit (described d)) ∙ e)
 
   pub change-ranked : (change : Change) → callRows (k .vcpus) (asked change) ≡ none → Ranked (termsOf (k .vcpus))
@@ -181,31 +158,74 @@ module _ (k : Card) (now : ℕ) where
       go (Remove t) m s = keep-ranked (λ v. not (named (t .0) v)) (afterReturn k now) s
       go Tick m s = s
 
-module _ (k : Card) (now : ℕ) (p : List Vcpu) (ids : List Tunnel) (n : ℕ) (f : Filled p ids n (afterReturn k now)) (r : Listed (afterReturn k now)) where
-  marks : (t : Tunnel) (b : Bool) (at : ℕ) (z : Vcpu) (asks : Vcpu → Vcpu) → at ≡ place (t .0) (k .vcpus) → namingRows (k .vcpus) (t .0) ≡ none
-      → ((v : Tenant) → asks (written v) ≡ written (setRunnable b v)) → Filled (set p at (asks (getD p at z))) ids n (toNamed (t .0) (setRunnable b)
-      (afterReturn k now))
-  marks t b at z asks e m g =
-      let i : at ≡ place (t .0) (afterReturn k now) = e ∙ sym (return-place k now (t .0)) in
-      let h : place (t .0) (afterReturn k now) < length (afterReturn k now) = named-place k now (t .0) m in
-      subst (λ (v : Vcpu). Filled (set p at v) ids n (toNamed (t .0) (setRunnable b) (afterReturn k now)))
-      (sym (ap asks (mark-read p ids n (afterReturn k now) f r (t .0) at i h z) ∙ g (getD (afterReturn k now) (place (t .0) (afterReturn k now)) noTenant)))
-      (mark-filled p ids n (afterReturn k now) f r (t .0) at i h b z)
+-- the table: its places, its identifiers and its count
+pub record Table : Type 0 where
+  pub places : List Vcpu
+  pub ids : List Tunnel
+  pub n : ℕ
 
-  pub plain-filled : (change : Change) (at : ℕ) (z : Vcpu) → OneOf (1 ∷ 2 ∷ 4 ∷ []) (tagOf the-type change) → callRows (k .vcpus)
-      (asked change) ≡ none → at ≡ placeNamed change (k .vcpus)
-      → Filled (set p at (changedOf (getD p at z) change)) ids n (changeRule (asked change) (afterReturn k now))
-  plain-filled (Admit d) at z o m e = absurd (never-tag 0 (inl refl) o)
-  plain-filled (Wake t) at z o m e = marks t true at z (λ v. changedOf v (Wake t)) e m (λ v. wake-written v t)
-  plain-filled (Block t) at z o m e = marks t false at z (λ v. changedOf v (Block t)) e m (λ v. block-written v t)
-  plain-filled (Remove t) at z o m e = absurd (never-tag 3 (inr refl) o)
-  plain-filled Tick at z o m e = subst (λ (q : List Vcpu). Filled q ids n (afterReturn k now)) (sym (ap (set p at) (tick-same (getD p at z))
-      ∙ set-getD p at z)) f
+-- what each change makes of it; `at` is the place that the call names, and `z` what a read past the end would give
+abbrev marked : Bool → ℕ → Vcpu → Table → Table
+marked b at z x = record { places = set (x .places) at (runnableAs (getD (x .places) at z) b); ids = x .ids; n = x .n }
 
--- the place that an accepted call names is one of the 32
-pub place-small : (vs : List Tenant) (change : Change) → length vs ≤ 32 → callRows vs (asked change) ≡ none → placeNamed change vs < 32
-place-small vs (Admit d) h e = omega arith
-place-small vs (Wake t) h e = omega (arith, place-there (t .0) vs (there vs (t .0) e))
-place-small vs (Block t) h e = omega (arith, place-there (t .0) vs (there vs (t .0) e))
-place-small vs (Remove t) h e = omega (arith, place-there (t .0) vs (there vs (t .0) e))
-place-small vs Tick h e = omega arith
+abbrev pub changedTable : Change → ℕ → Vcpu → Table → Table
+changedTable (Admit d) at z x =
+    record {
+      places = inserted (spotIn (described d) (x .n) (x .places) (x .ids)) (written (admitted (described d))) (x .places);
+      ids = inserted (spotIn (described d) (x .n) (x .places) (x .ids)) (d .tunnel) (x .ids);
+      n = x .n + 1;
+    }
+changedTable (Wake t) at z x = marked true at z x
+changedTable (Block t) at z x = marked false at z x
+changedTable (Remove t) at z x =
+    record { places = removed at (written noTenant) (x .places); ids = removed at (tunnel nobody) (x .ids); n = x .n - 1 }
+changedTable Tick at z x = x
+
+-- what it asks of the place
+abbrev pub Changeable : Change → ℕ → Table → Type 0
+Changeable (Admit d) at x = spotIn (described d) (x .n) (x .places) (x .ids) ≤ 32
+Changeable (Wake t) at x = at < 32
+Changeable (Block t) at x = at < 32
+Changeable (Remove t) at x = (at < 32) × (1 ≤ x .n)
+Changeable Tick at x = Unit
+
+abbrev pub FilledBy : Table → List Tenant → Type 0
+FilledBy x vs = Filled (x .places) (x .ids) (x .n) vs
+
+-- an accepted call finds its place, and leaves the rules' list after the change, written
+module _ (k : Card) (now : ℕ) (l : Listed (k .vcpus)) (x : Table) (f : FilledBy x (afterReturn k now)) where
+  r : Listed (afterReturn k now)
+  r = return-listed k now l
+
+  at-place : (t at : ℕ) → at ≡ seek t (idsOf (k .vcpus)) → namingRows (k .vcpus) t ≡ none → at ≡ place t (afterReturn k now)
+  at-place t at e m = e ∙ named-seek (k .vcpus) (l .few) t m ∙ sym (return-place k now t)
+
+  marks : (t at : ℕ) (b : Bool) (z : Vcpu) → at ≡ seek t (idsOf (k .vcpus)) → namingRows (k .vcpus) t ≡ none
+      → FilledBy (marked b at z x) (toNamed t (setRunnable b) (afterReturn k now))
+  marks t at b z e m =
+      let i : at ≡ place t (afterReturn k now) = at-place t at e m in
+      let h : place t (afterReturn k now) < length (afterReturn k now) = named-place k now t m in
+      subst (λ (v : Vcpu). Filled (set (x .places) at v) (x .ids) (x .n) (toNamed t (setRunnable b) (afterReturn k now)))
+      (sym (ap (λ (v : Vcpu). runnableAs v b) (mark-read (x .places) (x .ids) (x .n) (afterReturn k now) f r t at i h z)
+      ∙ mark-written (getD (afterReturn k now) (place t (afterReturn k now)) noTenant) b))
+      (mark-filled (x .places) (x .ids) (x .n) (afterReturn k now) f r t at i h b z)
+
+  small : (t at : ℕ) → at ≡ seek t (idsOf (k .vcpus)) → namingRows (k .vcpus) t ≡ none → at < x .n
+  small t at e m = omega (arith, at-place t at e m, named-place k now t m, f .count)
+
+  pub changeable : (change : Change) (at : ℕ) → at ≡ namedAt (idsOf (k .vcpus)) change → callRows (k .vcpus) (asked change) ≡ none
+      → Changeable change at x
+  changeable (Admit d) at e m = spot-fits (x .places) (x .ids) (x .n) (afterReturn k now) f r d (admits-after k now d m)
+  changeable (Wake t) at e m = omega (arith, small (t .0) at e m, f .count, r .few)
+  changeable (Block t) at e m = omega (arith, small (t .0) at e m, f .count, r .few)
+  changeable (Remove t) at e m = (omega (arith, small (t .0) at e m, f .count, r .few), omega (arith, small (t .0) at e m))
+  changeable Tick at e m = tt
+
+  pub change-filled : (change : Change) (at : ℕ) (z : Vcpu) → at ≡ namedAt (idsOf (k .vcpus)) change
+      → callRows (k .vcpus) (asked change) ≡ none → FilledBy (changedTable change at z x) (changeRule (asked change) (afterReturn k now))
+  change-filled (Admit d) at z e m = admit-filled (x .places) (x .ids) (x .n) (afterReturn k now) f r d (admits-after k now d m)
+  change-filled (Wake t) at z e m = marks (t .0) at true z e m
+  change-filled (Block t) at z e m = marks (t .0) at false z e m
+  change-filled (Remove t) at z e m =
+      remove-filled (x .places) (x .ids) (x .n) (afterReturn k now) f r (t .0) at (at-place (t .0) at e m) (named-place k now (t .0) m)
+  change-filled Tick at z e m = f

@@ -18,8 +18,7 @@ use Rattle.rules.specs.Vcpu.{Description, Entry, moreUrgent}
 use Rattle.rules.specs.Vcpu.{Vcpu as Tenant}
 use Rattle.rules.specs.Charge.{charged, charge}
 use Rattle.rules.specs.Choose.{ready, better, mostUrgent, choose, runs}
-use Rattle.rules.specs.Timer.{timer}
-use Rattle.rules.specs.Turn.{settled, afterCharge}
+use Rattle.rules.specs.Turn.{afterCharge}
 use Rattle.rules.specs.Limits.{mostPending}
 use Rattle.rules.specs.History.{holds as isHeldBy}
 use Rattle.rules.proofs.Tests.{no-some}
@@ -39,12 +38,13 @@ use Rattle.turns.proofs.Written.{tenants-laid}
 use Rattle.turns.proofs.Places.{named-set}
 use Rattle.turns.proofs.Charge.{charged-same}
 use Rattle.turns.proofs.Ranked.{all-get, all-set}
-use Rattle.turns.proofs.Rows.{idsOf, verdictOf, placeNamed, judge-same}
+use Rattle.turns.proofs.Rows.{idsOf, verdictOf, judge-same}
 use Rattle.rules.specs.Refuse.{refusal}
 use Rattle.rules.specs.Refuse.{Refusal as Row}
 use Rattle.turns.specs.declared.Refusal.{Refusal}
 use Rattle.turns.specs.declared.Verdict.{Verdict}
-use Rattle.turns.specs.declared.Verdict.the-variants.{Go, Refuse}
+use Rattle.turns.specs.declared.Verdict.the-variants.{Accept, Refuse}
+use Rattle.turns.specs.Table.{namedAt}
 use Rattle.turns.specs.Judge.{judge}
 use Rattle.turns.specs.Calls.{asked}
 
@@ -159,17 +159,17 @@ module _ (c : Core) (r : SoundCore c) where
   seat-is = card-reached c r .settled .runs-chosen
 
 -- who is charged
-pub record Runs (c : Core) (w : Tenant) : Type 0 where
+record Runs (c : Core) (w : Tenant) : Type 0 where
   pub seat : card c .running ≡ some (w .terms .tunnel)
   pub chosen : choose (card c .vcpus) ≡ some w
   pub place : c .running ≡ place (w .terms .tunnel) (card c .vcpus)
   pub at : At w (card c .vcpus)
 
-pub data Holds (c : Core) : Type 0 where
+data Holds (c : Core) : Type 0 where
   held : (w : Tenant) → Runs c w → Holds c
   idles : card c .running ≡ none → c .running ≡ idle → Holds c
 
-pub holds : (c : Core) → SoundCore c → Holds c
+holds : (c : Core) → SoundCore c → Holds c
 holds c r = go (choose (card c .vcpus)) refl
   where
     go : (o : Option Tenant) → choose (card c .vcpus) ≡ o → Holds c
@@ -231,7 +231,7 @@ module _ (c : Core) (r : SoundCore c) (now : Moment) (change : Change) (m : Pass
         fits = λ k. omega (arith, slot-most 8 k (w .pending), sound .whole, sound .range .capacity-high, sound .range .period-high);
       }
 
-  pub held-chargeable : (z : Vcpu) → Chargeable (getD (c .places) (c .running) z) (c .last) now
+  held-chargeable : (z : Vcpu) → Chargeable (getD (c .places) (c .running) z) (c .last) now
   held-chargeable z = rw (held-record z, last-is c r) chargeable
 
   charge-set : afterCharge (card c) (now .0) ≡ set (card c .vcpus) (place (w .terms .tunnel) (card c .vcpus)) (charged (card c .last) (now .0) w)
@@ -250,13 +250,13 @@ module _ (c : Core) (r : SoundCore c) (now : Moment) (change : Change) (m : Pass
       (kept-fits (suc (card c .last)) (card c .last + w .terms .period) (card c .last + (now .0 - card c .last)) _
       (kept-charged (card c .last) (now .0 - card c .last) w enough sound))
 
-  pub charge-fits : All Fits (afterCharge (card c) (now .0))
+  charge-fits : All Fits (afterCharge (card c) (now .0))
   charge-fits =
       subst (All Fits) (sym charge-set)
       (all-set Fits (card c .vcpus) (place (w .terms .tunnel) (card c .vcpus)) (charged (card c .last) (now .0) w)
       (all-fit (card c .last) (card c .vcpus) (between c r .each)) charged-fits)
 
-  pub charge-filled : (z : Vcpu) → Filled (set (c .places) (c .running) (chargedOf (getD (c .places) (c .running) z) (c .last) now)) (c .ids) (c .n)
+  charge-filled : (z : Vcpu) → Filled (set (c .places) (c .running) (chargedOf (getD (c .places) (c .running) z) (c .last) now)) (c .ids) (c .n)
       (afterCharge (card c) (now .0))
   charge-filled z =
       subst (λ (p : List Vcpu). Filled p (c .ids) (c .n) (afterCharge (card c) (now .0))) (sym same)
@@ -282,37 +282,76 @@ module _ (c : Core) (r : SoundCore c) (now : Moment) (change : Change) (m : Pass
   idle-charge : afterCharge (card c) (now .0) ≡ card c .vcpus
   idle-charge = ap (λ (o : Option ℕ). charge (card c .last) (now .0) o (card c .vcpus)) e
 
-  pub idle-fits : All Fits (afterCharge (card c) (now .0))
+  idle-fits : All Fits (afterCharge (card c) (now .0))
   idle-fits = subst (All Fits) (sym idle-charge) (all-fit (card c .last) (card c .vcpus) (between c r .each))
 
-  pub idle-filled : Filled (c .places) (c .ids) (c .n) (afterCharge (card c) (now .0))
+  idle-filled : Filled (c .places) (c .ids) (c .n) (afterCharge (card c) (now .0))
   idle-filled = subst (Filled (c .places) (c .ids) (c .n)) (sym idle-charge) (filled c r)
 
+-- a table that stands: written, and its numbers fit
+pub record Stands (p : List Vcpu) (ids : List Tunnel) (n : ℕ) (vs : List Tenant) : Type 0 where
+  pub filled : Filled p ids n vs
+  pub fits : All Fits vs
+
+-- step 1, whoever holds the core: the place of a holder is below the count, and idle's is not
+module _ (c : Core) (r : SoundCore c) (now : Moment) (change : Change) (m : Passed (card c) (now .0) (asked change)) where
+  few : c .n ≤ 32
+  few = omega (arith, n-is c r, between c r .few)
+
+  module _ (z : Vcpu) (h : c .running < c .n) where
+    pub charge-asks : Chargeable (getD (c .places) (c .running) z) (c .last) now
+    charge-asks = go (holds c r)
+      where
+        go : Holds c → Chargeable (getD (c .places) (c .running) z) (c .last) now
+        go (held w s) = held-chargeable c r now change m w s z
+        go (idles e i) = absurd (omega (arith, few))
+
+    pub charge-stands :
+        Stands (set (c .places) (c .running) (chargedOf (getD (c .places) (c .running) z) (c .last) now)) (c .ids) (c .n)
+        (afterCharge (card c) (now .0))
+    charge-stands = go (holds c r)
+      where
+        go : Holds c
+            → Stands (set (c .places) (c .running) (chargedOf (getD (c .places) (c .running) z) (c .last) now)) (c .ids) (c .n)
+            (afterCharge (card c) (now .0))
+        go (held w s) = record { filled = charge-filled c r now change m w s z; fits = charge-fits c r now change m w s }
+        go (idles e i) = absurd (omega (arith, few))
+
+  pub idle-stands : c .n ≤ c .running → Stands (c .places) (c .ids) (c .n) (afterCharge (card c) (now .0))
+  idle-stands h = go (holds c r)
+    where
+      go : Holds c → Stands (c .places) (c .ids) (c .n) (afterCharge (card c) (now .0))
+      go (held w s) = absurd (omega (arith, s .place, s .at .inside, n-is c r))
+      go (idles e i) = record { filled = idle-filled c r now change m e; fits = idle-fits c r now change m e }
+
 -- the verdict on a valid core
-judged-card : (c : Core) (now : Moment) (change : Change) → SoundCore c
-    → judge (c .last) (c .timer) (c .ids) (c .n) now change ≡ verdictOf (refusal (card c) (now .0) (asked change)) (placeNamed change (card c .vcpus))
-judged-card c now change r =
-    ap (λ (l : Moment). judge l (c .timer) (c .ids) (c .n) now change) (last-is c r)
-    ∙ ap (λ (t : Moment). judge (moment (card c .last)) t (c .ids) (c .n) now change) (timer-is c r)
-    ∙ ap (λ (i : List Tunnel). judge (moment (card c .last)) (moment (timerOf (card c .timer))) i (c .n) now change) (ids-are c r)
-    ∙ ap (λ (n : ℕ). judge (moment (card c .last)) (moment (timerOf (card c .timer))) (idsOf (card c .vcpus)) n now change) (n-is c r)
-    ∙ judge-same (card c) now change (between c r .few)
+module _ (c : Core) (now : Moment) (change : Change) (r : SoundCore c) (at : ℕ) (a : at ≡ namedAt (c .ids) change) where
+  pub named-card : at ≡ namedAt (idsOf (card c .vcpus)) change
+  named-card = a ∙ ap (λ (i : List Tunnel). namedAt i change) (ids-are c r)
 
-pub accepted-call : (c : Core) (now : Moment) (change : Change) (v : Verdict) (at : ℕ) → SoundCore c → v ≡ judge (c .last) (c .timer) (c .ids)
-    (c .n) now change → v ≡ Go at
-    → (refusal (card c) (now .0) (asked change) ≡ none) × (at ≡ placeNamed change (card c .vcpus))
-accepted-call c now change v at r e g = go (refusal (card c) (now .0) (asked change)) (sym g ∙ e ∙ judged-card c now change r)
-  where
-    go : (o : Option Row) → Go at ≡ verdictOf o (placeNamed change (card c .vcpus)) → (o ≡ none) × (at ≡ placeNamed change (card c .vcpus))
-    go none f = (refl, cc)
-    go (some x) f = let z : _≡_ {A = ℕ} 0 1 = cc in absurd (omega arith)
+  judged-card : judge (c .last) (c .timer) at (c .n) now change ≡ verdictOf (refusal (card c) (now .0) (asked change))
+  judged-card =
+      same (c .last) _ (c .timer) _ at _ (c .n) _ (last-is c r) (timer-is c r) named-card (n-is c r)
+      ∙ judge-same (card c) now change (between c r .few)
+    where
+      same : (l l′ t t′ : Moment) (a a′ n n′ : ℕ) → l ≡ l′ → t ≡ t′ → a ≡ a′ → n ≡ n′
+          → judge l t a n now change ≡ judge l′ t′ a′ n′ now change
+      same l l′ t t′ a a′ n n′ p q u v = rw (p, q, u, v)
 
-pub refused-call : (c : Core) (now : Moment) (change : Change) (v : Verdict) (x : Refusal) → SoundCore c → v ≡ judge (c .last) (c .timer) (c .ids)
-    (c .n) now change → v ≡ Refuse x
-    → refusal (card c) (now .0) (asked change) ≡ some (record { number = x .number; detail = x .detail })
-refused-call c now change v x r e g = go (refusal (card c) (now .0) (asked change)) (sym g ∙ e ∙ judged-card c now change r)
-  where
-    go : (o : Option Row) → Refuse x ≡ verdictOf o (placeNamed change (card c .vcpus)) → o ≡ some (record { number = x .number; detail = x .detail })
-    go none f = let z : _≡_ {A = ℕ} 0 1 = cc in absurd (omega arith)
-    go (some y) f = let h : x ≡ record { number = y .number; detail = y .detail } = cc in
-        ap (λ (u : Refusal). some (record { number = u .number; detail = u .detail })) (sym h)
+  module _ (v : Verdict) (e : v ≡ judge (c .last) (c .timer) at (c .n) now change) where
+    pub accepted-call : v ≡ Accept → refusal (card c) (now .0) (asked change) ≡ none
+    accepted-call g = go (refusal (card c) (now .0) (asked change)) (sym g ∙ e ∙ judged-card)
+      where
+        go : (o : Option Row) → Accept ≡ verdictOf o → o ≡ none
+        go none f = refl
+        go (some x) f = let z : _≡_ {A = ℕ} 0 1 = cc in absurd (omega arith)
+
+    pub refused-call : (x : Refusal) → v ≡ Refuse x
+        → refusal (card c) (now .0) (asked change) ≡ some (record { number = x .number; detail = x .detail })
+    refused-call x g = go (refusal (card c) (now .0) (asked change)) (sym g ∙ e ∙ judged-card)
+      where
+        go : (o : Option Row) → Refuse x ≡ verdictOf o → o ≡ some (record { number = x .number; detail = x .detail })
+        go none f = let z : _≡_ {A = ℕ} 0 1 = cc in absurd (omega arith)
+        go (some y) f =
+            let h : x ≡ record { number = y .number; detail = y .detail } = cc in
+            ap (λ (u : Refusal). some (record { number = u .number; detail = u .detail })) (sym h)

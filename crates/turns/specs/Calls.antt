@@ -1,7 +1,7 @@
 -- What the public calls promise: the rules' call that a call is, and the rules' answer written as the answer.
 -- Assumes nothing.
 use Prim.Native.Nat.{ℕ}
-use mathlib.Core.Bool.{true, false}
+use mathlib.Core.Bool.{Bool, true, false}
 use mathlib.Core.Option.{Option, none, some}
 use Rattle.units.specs.Units.{moment, amount, tunnel}
 use Rattle.units.specs.declared.Moment.{Moment}
@@ -26,7 +26,9 @@ use Rattle.turns.specs.declared.Reply.{Reply}
 use Rattle.turns.specs.declared.Reply.the-variants.{Done, No}
 use Rattle.turns.specs.declared.Answer.{Answer}
 use Rattle.turns.specs.declared.Core.{Core}
-use Rattle.turns.specs.declared.Look.{Look}
+use Rattle.turns.specs.declared.Presence.{Presence}
+use Rattle.turns.specs.declared.Presence.the-variants.{OnCard, Absent}
+use Rattle.turns.specs.declared.Vcpu.{Vcpu}
 use Rattle.turns.specs.Written.{written, noTenant, card, coreOf}
 
 abbrev pub described : Description → Terms
@@ -81,7 +83,12 @@ answerOf a = record { core = coreOf (a .card); reply = replySaid (a .reply) }
 unfoldable pub turned : Core → Moment → Change → Answer
 turned c now change = answerOf (turn (card c) (callOf now change))
 
+-- the identifier is on the card
+abbrev pub paperPresence : Presence → Bool
+paperPresence OnCard = true
+paperPresence Absent = false
+
 -- everything of a VCPU; where there is none, the record of a vacant place
-abbrev pub looked : Option Tenant → Look
-looked none = record { there = false; vcpu = written noTenant }
-looked (some v) = record { there = true; vcpu = written v }
+abbrev pub looked : Option Tenant → Vcpu
+looked none = written noTenant
+looked (some v) = written v

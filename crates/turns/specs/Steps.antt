@@ -2,7 +2,7 @@
 -- rules' steps on what the form shows is proved in proofs/. Assumes nothing.
 use Prim.Native.Nat.{ℕ, suc, _+_, _-_, _≤_, _<_, min}
 use mathlib.Core.Path.{_≡_}
-use mathlib.Core.Bool.{Bool, true, false, cond, _&&_}
+use mathlib.Core.Bool.{Bool, cond, _&&_}
 use mathlib.Core.List.{List, [], _∷_}
 use lib.Dec.{ltb, eqb}
 use lib.ListN.{length, getD, set}
@@ -11,8 +11,6 @@ use Rattle.units.specs.declared.Moment.{Moment}
 use Rattle.units.specs.declared.Amount.{Amount}
 use Rattle.turns.specs.declared.Vcpu.{Vcpu}
 use Rattle.turns.specs.declared.Pick.{Pick}
-use Rattle.turns.specs.declared.Change.{Change}
-use Rattle.turns.specs.declared.Change.the-variants.{Admit, Wake, Block, Remove, Tick}
 use Rattle.rules.specs.Limits.{mostPending}
 use Rattle.rules.specs.Lists.{sum}
 use Rattle.rules.specs.Vcpu.{Vcpu as Tenant}
@@ -120,13 +118,6 @@ returnedOne v =
 
 abbrev pub headOf : Vcpu → ℕ
 headOf v = (getD (v .due) 0 (moment 0)) .0
-
-unfoldable pub changedOf : Vcpu → Change → Vcpu
-changedOf v (Admit d) = v
-changedOf v (Wake t) = runnableAs v true
-changedOf v (Block t) = runnableAs v false
-changedOf v (Remove t) = v
-changedOf v Tick = v
 
 abbrev pub readyOf : Vcpu → Bool
 readyOf v = v .runnable && ltb 0 (v .usable .0)

@@ -6,18 +6,33 @@ use lib.Dec.{ltb, eqb}
 use lib.ListN.{getD}
 use Rattle.units.specs.Units.{tunnel}
 use Rattle.units.specs.declared.Tunnel.{Tunnel}
+use Rattle.rules.specs.Limits.{mostVcpus}
 use Rattle.rules.specs.Vcpu.{moreUrgent}
 use Rattle.rules.specs.Vcpu.{Description as Terms}
 use Rattle.turns.specs.declared.Vcpu.{Vcpu}
+use Rattle.turns.specs.declared.Change.{Change}
+use Rattle.turns.specs.declared.Change.the-variants.{Admit, Wake, Block, Remove, Tick}
 use Rattle.turns.specs.declared.Holder.{Holder}
 use Rattle.turns.specs.declared.Holder.the-variants.{Idle}
 use Rattle.turns.specs.declared.Holder.the-variants.{Vcpu as Held}
 use Rattle.turns.specs.Written.{idle}
 
+-- behind all places
+abbrev pub nowhere : ℕ
+nowhere = mostVcpus
+
 -- the first place of an identifier, or behind all
 abbrev pub seek : ℕ → List Tunnel → ℕ
 seek t [] = 0
 seek t (x ∷ xs) = cond (eqb (x .0) t) 0 (suc (seek t xs))
+
+-- the place of the VCPU that a call names; a tick names nobody
+abbrev pub namedAt : List Tunnel → Change → ℕ
+namedAt ids (Admit d) = seek (d .tunnel .0) ids
+namedAt ids (Wake t) = seek (t .0) ids
+namedAt ids (Block t) = seek (t .0) ids
+namedAt ids (Remove t) = seek (t .0) ids
+namedAt ids Tick = nowhere
 
 abbrev pub holderOf : List Tunnel → ℕ → Holder
 holderOf ids at = cond (ltb at idle) (Held (getD ids at (tunnel 0))) Idle

@@ -1,14 +1,13 @@
-// The reply numbers, rows 1 to 8, from the identifiers alone: a refused call does not touch the table.
+// The reply numbers, rows 1 to 8. `at` is the place of the VCPU that the call names: a refused call does not touch the table.
 use crate::Change;
 use crate::Description;
-use crate::IDLE;
 use crate::LARGEST_PERIOD;
 use crate::LARGEST_TIME;
 use crate::LARGEST_TUNNEL;
 use crate::MOST_VCPUS;
+use crate::NOWHERE;
 use crate::Refusal;
 use crate::Verdict;
-use crate::table;
 use units::Moment;
 use units::Tunnel;
 ghost use mathlib.Core.Path.{_≡_};
@@ -37,8 +36,8 @@ fn in_range(period: u32, capacity: u32) -> bool
     capacity <= period
 }
 
-fn judged_admit(ids: [Tunnel; MOST_VCPUS], n: usize, d: Description) -> Verdict
-    ensures { λ r. ⌜ r ≡ judgeAdmit ids n d ⌝ }
+fn judged_admit(at: usize, n: usize, d: Description) -> Verdict
+    ensures { λ r. ⌜ r ≡ judgeAdmit at n d ⌝ }
 {
     let id = d.tunnel;
     let period = d.period;
@@ -51,7 +50,7 @@ fn judged_admit(ids: [Tunnel; MOST_VCPUS], n: usize, d: Description) -> Verdict
     if !fits {
         return refused(5, 0);
     }
-    let there = table::find(ids, id) < IDLE;
+    let there = at < NOWHERE;
     if there {
         return refused(6, 0);
     }
@@ -59,45 +58,44 @@ fn judged_admit(ids: [Tunnel; MOST_VCPUS], n: usize, d: Description) -> Verdict
     if full {
         return refused(8, 0);
     }
-    Verdict::Go(0)
+    Verdict::Accept
 }
 
-fn judged_naming(ids: [Tunnel; MOST_VCPUS], id: Tunnel) -> Verdict
-    ensures { λ r. ⌜ r ≡ judgeNaming ids (id .0) ⌝ }
+fn judged_naming(at: usize, id: Tunnel) -> Verdict
+    ensures { λ r. ⌜ r ≡ judgeNaming at (id .0) ⌝ }
 {
     let wide = LARGEST_TUNNEL < id.number();
     if wide {
         return refused(4, 0);
     }
-    let at = table::find(ids, id);
-    let absent = IDLE <= at;
+    let absent = NOWHERE <= at;
     if absent {
         return refused(7, 0);
     }
-    Verdict::Go(at)
+    Verdict::Accept
 }
 
-fn judged_call(ids: [Tunnel; MOST_VCPUS], n: usize, change: Change) -> Verdict
-    ensures { λ r. ⌜ r ≡ judgeCall ids n change ⌝ }
+fn judged_call(at: usize, n: usize, change: Change) -> Verdict
+    ensures { λ r. ⌜ r ≡ judgeCall at n change ⌝ }
 {
     match change {
-        Change::Admit(d) => judged_admit(ids, n, d),
-        Change::Wake(id) => judged_naming(ids, id),
-        Change::Block(id) => judged_naming(ids, id),
-        Change::Remove(id) => judged_naming(ids, id),
-        Change::Tick => Verdict::Go(0),
+        Change::Admit(d) => judged_admit(at, n, d),
+        Change::Wake(id) => judged_naming(at, id),
+        Change::Block(id) => judged_naming(at, id),
+        Change::Remove(id) => judged_naming(at, id),
+        Change::Tick => Verdict::Accept,
     }
 }
 
 pub(crate) fn judged(
     last: Moment,
     timer: Moment,
-    ids: [Tunnel; MOST_VCPUS],
+    at: usize,
     n: usize,
     now: Moment,
     change: Change,
 ) -> Verdict
-    ensures { λ r. ⌜ r ≡ judgeRows last timer ids n now change ⌝ }
+    ensures { λ r. ⌜ r ≡ judgeRows last timer at n now change ⌝ }
 {
     let above = LARGEST_TIME < now.ticks();
     if above {
@@ -109,5 +107,5 @@ pub(crate) fn judged(
     if timer.before(now) {
         return refused(3, timer.ticks());
     }
-    judged_call(ids, n, change)
+    judged_call(at, n, change)
 }

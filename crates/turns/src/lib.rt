@@ -11,28 +11,31 @@ ghost use mathlib.Core.Path.{_≡_};
 ghost use lib.ListN.{length};
 ghost use Rattle.rules.specs.Card.{empty as emptyCard};
 ghost use Rattle.rules.specs.Card.{find as findRule};
+ghost use Rattle.rules.specs.Card.{onCard};
 ghost use Rattle.rules.specs.Turn.{turn as turnRule};
 ghost use Rattle.turns.specs.Written.{card, coreOf};
 ghost use Rattle.turns.specs.State.{ValidCore};
-ghost use Rattle.turns.specs.Calls.{callOf, paperReply, paperHolder, paperTimer, looked};
+ghost use Rattle.turns.specs.Calls.{callOf, paperReply, paperHolder, paperTimer, paperPresence, looked};
 
 // The limits of the card.
-pub const LARGEST_TIME: u64 = 1000000000000;
-
 pub const LARGEST_TUNNEL: u32 = 16777215;
 
-pub const LARGEST_PERIOD: u32 = 1000000;
+const LARGEST_TIME: u64 = 1000000000000;
 
-pub const MOST_VCPUS: usize = 32;
+const LARGEST_PERIOD: u32 = 1000000;
 
-pub const MOST_PENDING: u8 = 8;
+const MOST_VCPUS: usize = 32;
+
+const MOST_PENDING: u8 = 8;
 
 // A time above all: the due time of an unused slot, and the timer where there is none.
 const NEVER: u64 = LAST_MOMENT;
 // The identifier of a vacant place, above 24 bits.
 const NOBODY: u32 = 4294967295;
-// The place of nobody.
+// The place of the holder in idle.
 const IDLE: usize = 32;
+// The place of an identifier that is not on the card.
+const NOWHERE: usize = 32;
 
 const LAST_PLACE: usize = 31;
 
@@ -101,9 +104,15 @@ pub struct Vcpu {
     pub count: u8,
 }
 
+// Whether an identifier is on the card.
+pub enum Presence {
+    OnCard,
+    Absent,
+}
+
 // Everything of one VCPU; where there is none, the record of a vacant place.
 pub struct Look {
-    pub there: bool,
+    pub presence: Presence,
     pub vcpu: Vcpu,
 }
 
@@ -133,7 +142,7 @@ struct Pick {
 }
 
 enum Verdict {
-    Go(usize),
+    Accept,
     Refuse(Refusal),
 }
 
@@ -162,16 +171,17 @@ impl Core {
         let last = self.last;
         let mut ids = self.ids;
         let mut n = self.n;
-        let verdict = judge::judged(last, self.timer, ids, n, now, change);
-        let at = match verdict {
-            Verdict::Go(at) => at,
+        let at = table::named(ids, change);
+        let verdict = judge::judged(last, self.timer, at, n, now, change);
+        match verdict {
+            Verdict::Accept => {}
             Verdict::Refuse(refusal) => {
                 return Answer {
                     core: self,
                     reply: Reply::No(refusal),
                 };
             }
-        };
+        }
         let mut p = self.places;
         let running = self.running;
         // 1. Charge; in idle nobody is charged.
@@ -200,6 +210,14 @@ impl Core {
                 ids = longer;
                 n += 1;
             }
+            Change::Wake(_) => {
+                let v = p[at];
+                p[at] = steps::runnable_as(v, true);
+            }
+            Change::Block(_) => {
+                let v = p[at];
+                p[at] = steps::runnable_as(v, false);
+            }
             Change::Remove(_) => {
                 let closed = table::without_vcpu(p, at, steps::vacant());
                 let shorter = table::without_id(ids, at, Tunnel::new(NOBODY));
@@ -207,10 +225,7 @@ impl Core {
                 ids = shorter;
                 n -= 1;
             }
-            _ => {
-                let v = p[at];
-                p[at] = steps::changed(v, change);
-            }
+            Change::Tick => {}
         }
         // 4. Choose: the table is in the order of urgency, and every place in use is looked at.
         let mut pick = Pick {
@@ -292,22 +307,30 @@ impl Core {
     // What is known of the VCPU so named.
     pub fn look(self, id: Tunnel) -> Look
         requires { ⌜ ValidCore self ⌝ }
-        ensures { λ r. ⌜ r ≡ looked (findRule (id .0) (card self .vcpus)) ⌝ }
+        ensures { λ r. ⌜ paperPresence (r .presence) ≡ onCard (id .0) (card self .vcpus) ⌝ }
+        ensures { λ r. ⌜ r .vcpu ≡ looked (findRule (id .0) (card self .vcpus)) ⌝ }
     {
+        let vacant = steps::vacant();
+        let absent = Look {
+            presence: Presence::Absent,
+            vcpu: vacant,
+        };
         let wide = LARGEST_TUNNEL < id.number();
         if wide {
-            let vcpu = steps::vacant();
-            return Look { there: false, vcpu };
+            return absent;
         }
         let ids = self.ids;
         let at = table::find(ids, id);
-        if at < IDLE {
-            let p = self.places;
-            let vcpu = p[at];
-            return Look { there: true, vcpu };
+        let nowhere = NOWHERE <= at;
+        if nowhere {
+            return absent;
         }
-        let vcpu = steps::vacant();
-        Look { there: false, vcpu }
+        let p = self.places;
+        let vcpu = p[at];
+        Look {
+            presence: Presence::OnCard,
+            vcpu,
+        }
     }
 
     pub fn status(self) -> Status

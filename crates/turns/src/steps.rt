@@ -1,5 +1,4 @@
 // The steps on one VCPU: charge, return, change, and what choosing and the timer ask of it.
-use crate::Change;
 use crate::Description;
 use crate::IDLE;
 use crate::MOST_PENDING;
@@ -20,7 +19,7 @@ ghost use Rattle.rules.specs.Vcpu.{admitted as admittedRule};
 ghost use Rattle.turns.specs.Written.{never, written, noTenant, timerAt};
 ghost use Rattle.turns.specs.Calls.{described, timerSaid};
 ghost use Rattle.turns.specs.Steps.{elapsedOf, ticksAt, joinedOf, foldedOf, appendedOf, joinsOf, postedOf, chargedOf, Chargeable};
-ghost use Rattle.turns.specs.Steps.{nextOf, returnedOne, headOf, changedOf, readyOf, waitsOf, pickedOf, timerFor, bare, Returnable};
+ghost use Rattle.turns.specs.Steps.{nextOf, returnedOne, headOf, runnableAs, readyOf, waitsOf, pickedOf, timerFor, bare, Returnable};
 
 // The ticks from `last` to `now`: the only place where two moments become an amount.
 fn elapsed(last: Moment, now: Moment) -> Amount
@@ -64,10 +63,8 @@ fn folded(v: Vcpu, used: Amount, due: Moment) -> Vcpu
     requires { ⌜ ticksAt v (v .count - 1) + used .0 < 4294967296 ⌝ }
     ensures { λ r. ⌜ r ≡ foldedOf v used due ⌝ }
 {
-    let mut w = v;
+    let mut w = joined(v, used);
     let at = (v.count - 1) as usize;
-    let sum = more(v.amount[at], used);
-    w.amount[at] = sum;
     w.due[at] = due;
     w
 }
@@ -182,23 +179,12 @@ pub(crate) fn returned(v: Vcpu, now: Moment) -> Vcpu
     w
 }
 
-pub(crate) fn changed(v: Vcpu, change: Change) -> Vcpu
-    ensures { λ r. ⌜ r ≡ changedOf v change ⌝ }
+pub(crate) fn runnable_as(v: Vcpu, runnable: bool) -> Vcpu
+    ensures { λ r. ⌜ r ≡ runnableAs v runnable ⌝ }
 {
     let mut w = v;
-    match change {
-        Change::Wake(_) => {
-            w.runnable = true;
-            w
-        }
-        Change::Block(_) => {
-            w.runnable = false;
-            w
-        }
-        Change::Admit(_) => v,
-        Change::Remove(_) => v,
-        Change::Tick => v,
-    }
+    w.runnable = runnable;
+    w
 }
 
 pub(crate) fn vacant() -> Vcpu
@@ -219,24 +205,18 @@ pub(crate) fn vacant() -> Vcpu
     }
 }
 
+// A vacant place with the newcomer's terms, and C usable.
 pub(crate) fn admitted(d: Description) -> Vcpu
     ensures { λ r. ⌜ r ≡ written (admittedRule (described d)) ⌝ }
 {
-    let never = Moment::new(NEVER);
-    let none = Amount::new(0);
+    let mut v = vacant();
     let period = d.period;
     let capacity = d.capacity;
-    Vcpu {
-        due: [never; 8],
-        ended: Moment::new(0),
-        amount: [none; 8],
-        period,
-        capacity,
-        usable: capacity,
-        priority: d.priority,
-        runnable: false,
-        count: 0,
-    }
+    v.period = period;
+    v.capacity = capacity;
+    v.usable = capacity;
+    v.priority = d.priority;
+    v
 }
 
 fn ready(v: Vcpu) -> bool

@@ -1,9 +1,11 @@
 // The table: where an identifier stands, where a newcomer goes, and the shifts of admit and remove.
+use crate::Change;
 use crate::Description;
 use crate::Holder;
 use crate::IDLE;
 use crate::LAST_PLACE;
 use crate::MOST_VCPUS;
+use crate::NOWHERE;
 use crate::Vcpu;
 use units::Tunnel;
 ghost use mathlib.Core.Path.{_≡_};
@@ -11,9 +13,9 @@ ghost use Prim.Native.Nat.{_≤_, _<_};
 ghost use Rattle.rules.specs.Limits.{mostVcpus};
 ghost use Rattle.rules.specs.Vcpu.{moreUrgent};
 ghost use Rattle.turns.specs.Calls.{described};
-ghost use Rattle.turns.specs.Table.{seek, holderOf, urgency, spotIn, inserted, removed};
+ghost use Rattle.turns.specs.Table.{seek, namedAt, holderOf, urgency, spotIn, inserted, removed};
 
-// The place of an identifier, nobody's where it is not there.
+// The place of an identifier.
 pub(crate) fn find(ids: [Tunnel; MOST_VCPUS], id: Tunnel) -> usize
     ensures { λ r. ⌜ r ≡ seek (id .0) ids ⌝ }
 {
@@ -26,7 +28,20 @@ pub(crate) fn find(ids: [Tunnel; MOST_VCPUS], id: Tunnel) -> usize
         }
         k += 1;
     }
-    IDLE
+    NOWHERE
+}
+
+// The place of the VCPU that a call names; a tick names nobody.
+pub(crate) fn named(ids: [Tunnel; MOST_VCPUS], change: Change) -> usize
+    ensures { λ r. ⌜ r ≡ namedAt ids change ⌝ }
+{
+    match change {
+        Change::Admit(d) => find(ids, d.tunnel),
+        Change::Wake(id) => find(ids, id),
+        Change::Block(id) => find(ids, id),
+        Change::Remove(id) => find(ids, id),
+        Change::Tick => NOWHERE,
+    }
 }
 
 pub(crate) fn holder(ids: [Tunnel; MOST_VCPUS], at: usize) -> Holder

@@ -1,33 +1,65 @@
 -- `turns::Core::look` meets its contract: the place sought is the tenant's, and a vacant place is never named.
 -- Assumes nothing.
-use Rattle.turns.proofs.Made.{sound}
-use Rattle.turns.proofs.Questions.{unread, wide-none, look-there, look-absent}
-use Rattle.rules.specs.Limits.{largestTunnel}
-use Rattle.turns.specs.declared.Vcpu.{Vcpu}
-use Rattle.turns.specs.Calls.{looked}
-use lib.ListN.{getD}
-use lib.Dec.{ltb}
-use borrow.Author.Tests.{ltb-true, ltb-false}
-use mathlib.Core.Bool.{true, false}
 use Prim.Native.Nat.{ℕ, _≤_, _<_}
-use mathlib.Core.Path.{ap, sym, _∙_, subst}
+use mathlib.Core.Path.{_≡_, ap, sym, _∙_}
+use mathlib.Core.Bool.{Bool}
+use lib.Dec.{leb, ltb}
+use lib.ListN.{getD}
 use borrow.Author.Needs.{needs}
+use borrow.Author.Tests.{leb-true, leb-false, ltb-true, ltb-false}
+use Rattle.rules.specs.Limits.{largestTunnel}
+use Rattle.turns.specs.declared.Core.{Core}
+use Rattle.turns.specs.Table.{nowhere, seek}
+use Rattle.turns.proofs.Invariant.{SoundCore}
+use Rattle.turns.proofs.Made.{sound}
+use Rattle.turns.proofs.Questions.{unread, wide-sought, there-sought, absent-sought}
 use Rattle.turns.proofs.Core.look.Statement.{statement}
 use Rattle.turns.proofs.Core.look.Tie as tie
 
-number-requires : tie.Need-number-requires
-number-requires c κs = search needs
+-- the places of the code: the identifier's number is read, and its place is found
+abbrev start : tie.After-number → tie.Start
+start c = c .before .before
+
+abbrev core : tie.After-number → Core
+core c = start c .args .self
+
+abbrev id : tie.After-number → ℕ
+id c = start c .args .id .0
+
+valid : (c : tie.After-number) → SoundCore (core c)
+valid c = sound (core c) (start c .pre)
+
+wide : (c : tie.After-number) (b : Bool) → ltb largestTunnel (c .number .result) ≡ b → ltb largestTunnel (id c) ≡ b
+wide c b e = ap (ltb largestTunnel) (sym (c .number .ensures)) ∙ e
+
+abbrev numbered : tie.After-find → tie.After-number
+numbered c = c .before .before .before
+
+narrow : (c : tie.After-find) → id (numbered c) ≤ largestTunnel
+narrow c = ltb-false largestTunnel (id (numbered c)) (wide (numbered c) _ (c .before .before .if1 .left))
 
 vacant-requires : tie.Need-vacant-requires
 vacant-requires c κs = search needs
 
+number-requires : tie.Need-number-requires
+number-requires c κs = search needs
+
 returns : tie.Need-returns
-returns c = ap (λ (v : Vcpu). record { there = false; vcpu = v }) (c .vacant .ensures) ∙ ap looked (sym (wide-none
-    (c .before .before .before .args .self) (sound _ (c .before .before .before .pre)) (c .before .before .before .args .id .0) (ltb-true largestTunnel
-    (c .before .before .before .args .id .0) (ap (ltb largestTunnel) (sym (c .before .before .number .ensures)) ∙ c .before .if1 .taken))))
+returns c =
+    let n : tie.After-number = c .before in
+    let h : largestTunnel < id n = ltb-true largestTunnel (id n) (wide n _ (c .if1 .taken)) in
+    let s = wide-sought (core n) (valid n) (id n) h in
+    (s .present, n .before .vacant .ensures ∙ s .is)
 
 find-requires : tie.Need-find-requires
 find-requires c κs = search needs
+
+returns-2 : tie.Need-returns-2
+returns-2 c =
+    let n : tie.After-number = numbered (c .before) in
+    let h : nowhere ≤ seek (id n) (core n .ids) = leb-true nowhere _ (ap (leb nowhere) (sym (c .before .find .ensures)) ∙ c .if2 .taken) in
+    let s = absent-sought (core n) (valid n) (id n) (narrow (c .before)) h in
+    (s .present, n .before .vacant .ensures ∙ s .is)
 
 mul-vcpu : tie.Need-mul-vcpu
 mul-vcpu c = search needs
@@ -35,41 +67,24 @@ mul-vcpu c = search needs
 array-copy-out-vcpu : tie.Need-array-copy-out-vcpu
 array-copy-out-vcpu c = search needs
 
-returns-2 : tie.Need-returns-2
-returns-2 c = ap (λ (v : Vcpu). record { there = true; vcpu = v }) (ap (λ (i : ℕ). getD
-    (c .before .before .before .before .before .before .before .args .self .places) i unread) (c .before .before .before .find .ensures) ∙
-    (look-there (c .before .before .before .before .before .before .before .args .self)
-    (sound _ (c .before .before .before .before .before .before .before .pre)) (c .before .before .before .before .before .before .before .args .id .0) unread
-    (ltb-false largestTunnel (c .before .before .before .before .before .before .before .args .id .0) (ap (ltb largestTunnel) (sym
-    (c .before .before .before .before .before .before .number .ensures)) ∙ c .before .before .before .before .before .if1 .left)) (subst (λ
-    (k : ℕ). k < 32) (c .before .before .before .find .ensures) (c .before .before .if2 .taken))) .1) ∙ ap looked (sym ((look-there
-    (c .before .before .before .before .before .before .before .args .self) (sound _ (c .before .before .before .before .before .before .before .pre))
-    (c .before .before .before .before .before .before .before .args .id .0) unread (ltb-false largestTunnel
-    (c .before .before .before .before .before .before .before .args .id .0) (ap (ltb largestTunnel) (sym
-    (c .before .before .before .before .before .before .number .ensures)) ∙ c .before .before .before .before .before .if1 .left)) (subst (λ
-    (k : ℕ). k < 32) (c .before .before .before .find .ensures) (c .before .before .if2 .taken))) .0))
-
-vacant-requires-2 : tie.Need-vacant-requires-2
-vacant-requires-2 c κs = search needs
-
 returns-3 : tie.Need-returns-3
-returns-3 c = ap (λ (v : Vcpu). record { there = false; vcpu = v }) (c .vacant2 .ensures) ∙ ap looked (sym (look-absent
-    (c .before .before .before .before .before .before .args .self) (sound _ (c .before .before .before .before .before .before .pre))
-    (c .before .before .before .before .before .before .args .id .0) (ltb-false largestTunnel
-    (c .before .before .before .before .before .before .args .id .0) (ap (ltb largestTunnel) (sym
-    (c .before .before .before .before .before .number .ensures)) ∙ c .before .before .before .before .if1 .left)) (subst (λ (k : ℕ). 32 ≤ k)
-    (c .before .before .find .ensures) (c .before .if2 .left))))
+returns-3 c =
+    let f : tie.After-find = c .before .before .before in
+    let n : tie.After-number = numbered f in
+    let h : seek (id n) (core n .ids) < nowhere =
+    leb-false nowhere _ (ap (leb nowhere) (sym (f .find .ensures)) ∙ c .before .before .if2 .left) in
+    let s = there-sought (core n) (valid n) (id n) (narrow f) unread h in
+    (s .present, ap (λ (i : ℕ). getD (core n .places) i unread) (f .find .ensures) ∙ s .is)
 
 pub look-spec : {M : Type 1} → statement M
 look-spec =
     tie.close
     (tie.spec
-    number-requires
     vacant-requires
+    number-requires
     returns
     find-requires
+    returns-2
     mul-vcpu
     array-copy-out-vcpu
-    returns-2
-    vacant-requires-2
     returns-3)
