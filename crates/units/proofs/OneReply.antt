@@ -16,10 +16,6 @@ use Rattle.units.proofs.Amount.new.Kinds as amount-new
 use Rattle.units.proofs.Amount.new.Reads as amount-new-promise
 use Rattle.units.proofs.Amount.ticks.Kinds as amount-ticks
 use Rattle.units.proofs.Amount.ticks.Reads as amount-ticks-promise
-use Rattle.units.proofs.Amount.below.Kinds as amount-below
-use Rattle.units.proofs.Amount.below.Reads as amount-below-promise
-use Rattle.units.proofs.Amount.same.Kinds as amount-same
-use Rattle.units.proofs.Amount.same.Reads as amount-same-promise
 use Rattle.units.proofs.Tunnel.new.Kinds as tunnel-new
 use Rattle.units.proofs.Tunnel.new.Reads as tunnel-new-promise
 use Rattle.units.proofs.Tunnel.number.Kinds as tunnel-number
@@ -49,12 +45,6 @@ amount-new-one κs args a b x y p q = p ∙ sym q
 
 pub amount-ticks-one : OneReply 0 amount-ticks.ps amount-ticks.r amount-ticks-promise.Post
 amount-ticks-one κs args a b x y p q = p ∙ sym q
-
-pub amount-below-one : OneReply 0 amount-below.ps amount-below.r amount-below-promise.Post
-amount-below-one κs args a b x y p q = p ∙ sym q
-
-pub amount-same-one : OneReply 0 amount-same.ps amount-same.r amount-same-promise.Post
-amount-same-one κs args a b x y p q = p ∙ sym q
 
 pub tunnel-new-one : OneReply 0 tunnel-new.ps tunnel-new.r tunnel-new-promise.Post
 tunnel-new-one κs args a b x y p q = p ∙ sym q

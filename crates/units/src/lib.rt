@@ -66,18 +66,6 @@ impl Amount {
     {
         self.0
     }
-
-    pub fn below(self, other: Amount) -> bool
-        ensures { λ r. ⌜ r ≡ ltb (self .0) (other .0) ⌝ }
-    {
-        self.0 < other.0
-    }
-
-    pub fn same(self, other: Amount) -> bool
-        ensures { λ r. ⌜ r ≡ eqb (self .0) (other .0) ⌝ }
-    {
-        self.0 == other.0
-    }
 }
 
 impl Tunnel {
