@@ -12,7 +12,8 @@ use Rattle.model.specs.Meaning.{NoBudget}
 use Rattle.model.specs.Asked.{least, replyTo}
 use Rattle.model.specs.Table.{row-30, row-31, row-32, row-33, row-34, row-35, Accepted}
 use Rattle.model.specs.Examples.{W11, Hold, examples}
-use Rattle.model.proofs.Supply.{supply-most}
+use Rattle.model.proofs.Supply.{supply-only, supply-most}
+use Rattle.model.proofs.Demand.{demand-only}
 use Rattle.model.proofs.Table.{count-out, task-out, period-falls}
 use Rattle.model.proofs.Replies.{least-34}
 
@@ -20,7 +21,9 @@ use Rattle.model.proofs.Replies.{least-34}
 too-much : (P : ℕ) → NoBudget P (W11 .periods) (W11 .costs)
 too-much P B from to pass =
     let m = pass 2 (omega arith) (omega arith) in
-    absurd (omega (arith, m .from-1, m .to-p, m .enough, supply-most P B (m .t) to))
+    let s = supply-only P B (m .t) (m .supply) (m .supplied) in
+    let d = demand-only (W11 .periods) (W11 .costs) 2 (m .t) (m .demand) (m .demanded) in
+    absurd (omega (arith, m .from-1, m .to-p, m .enough, s, d, supply-most P B (m .t) to))
 
 in-order : (P : ℕ) → 1 ≤ P → P ≤ 2000 → Accepted (least W11 P)
 in-order P from to n l (row-30 x) = count-out W11 .1 refl x

@@ -7,3 +7,4 @@ pub mod Examples
 pub mod Tests
 pub mod Places
 pub mod Supply
+pub mod Demand

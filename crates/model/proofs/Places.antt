@@ -60,7 +60,12 @@ pub record Smallest (f : ℕ → Bool) (n r : ℕ) : Type 0 where
 
 pub first-smallest : (f : ℕ → Bool) (n : ℕ) → Smallest f n (first f n)
 first-smallest f zero =
-    record { most = omega arith; holds = λ p. absurd (omega arith); least = λ s p l. absurd (omega arith); none = λ e s p l. absurd (omega arith) }
+    record {
+      most = omega arith;
+      holds = λ p. absurd (omega arith);
+      least = λ s p l. absurd (omega arith);
+      none = λ e s p l. absurd (omega arith);
+    }
 first-smallest f (suc n) = go (first f n) (first-smallest f n) (f (suc n)) refl
   where
     go : (r : ℕ) → Smallest f n r → (b : Bool) → f (suc n) ≡ b → Smallest f (suc n) (orElse r (cond b (suc n) 0))

@@ -14,7 +14,8 @@ use Rattle.model.specs.Reply.{gives, refuses}
 use Rattle.model.specs.Rows.{within, inRange}
 use Rattle.model.specs.Meaning.{IsLeast, NoBudget, IsBest, NoShare}
 use Rattle.model.specs.Asked.{Work, Asked, least, best, replyTo}
-use Rattle.model.specs.Table.{LengthOut, NonePasses, Row, row-30, row-31, row-32, row-33, row-34, row-35, rows, First, Result, Accepted}
+use Rattle.model.specs.Table.{Row, row-30, row-31, row-32, row-33, row-34, row-35, rows, First}
+use Rattle.model.specs.Table.{LengthOut, NonePasses, Result, Accepted}
 use Rattle.model.proofs.Tests.{and-both}
 use Rattle.model.proofs.Meaning.{same-share}
 use Rattle.model.proofs.Table.{of-34, table}
@@ -69,7 +70,8 @@ module _ (asked : Asked) (no-length : LengthOut asked → ⊥) where
             none-above = λ p l r. omega (arith, l, lowest p (only-34 (h .0) (getD rows p 0) r));
           }
 
-  is-given : (values : List ℕ) → (NonePasses asked → Result asked values → ⊥) → (replyTo asked ≡ gives values) ↔ (Accepted asked × Result asked values)
+  is-given : (values : List ℕ) → (NonePasses asked → Result asked values → ⊥)
+      → (replyTo asked ≡ gives values) ↔ (Accepted asked × Result asked values)
   is-given values some = (
     λ e. let g = table asked .given values .0 e in (λ n l. g .0 n, g .1),
     λ h. table asked .given values .1 (λ n r. some (of-34 asked (subst (λ (k : ℕ). Row asked k) (only-34 (h .0) n r) r)) (h .1), h .1),
@@ -103,7 +105,9 @@ module _ (w : Work) (P : ℕ) where
       same : Result (best w P) (s .period ∷ s .budget ∷ []) → IsBest P ps es s
       same r = let o : r .0 ≡ s = same-share (r .0) s (cc (r .1)) (cc (r .1)) in rw o at (r .2)
 
-      e : (replyTo (best w P) ≡ gives (s .period ∷ s .budget ∷ [])) ↔ (Accepted (best w P) × Result (best w P) (s .period ∷ s .budget ∷ []))
-      e =
-          is-given (best w P) (λ x. x) (s .period ∷ s .budget ∷ [])
-          (λ none r. let i = same r in none (s .period) (i .from-1) (i .to-n) (s .budget) (i .least .from-1) (i .least .to-P) (i .least .passing))
+      some : NoShare P ps es → IsBest P ps es s → ⊥
+      some none i = none (s .period) (i .from-1) (i .to-n) (s .budget) (i .least .from-1) (i .least .to-P) (i .least .passing)
+
+      e : (replyTo (best w P) ≡ gives (s .period ∷ s .budget ∷ []))
+          ↔ (Accepted (best w P) × Result (best w P) (s .period ∷ s .budget ∷ []))
+      e = is-given (best w P) (λ x. x) (s .period ∷ s .budget ∷ []) (λ none r. some none (same r))

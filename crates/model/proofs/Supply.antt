@@ -1,12 +1,13 @@
--- The supply of specs/Supply.antt before the first gap is over and after it, and that it is never more than the length.
--- Assumes nothing.
+-- The supply of specs/Supply.antt is that of specs/Meaning.antt, each way round: before the first gap is over and after it. And it is
+-- never more than the length. Assumes nothing.
 use Prim.Native.Nat.{ℕ, _+_, _*_, _-_, _/_, _≤_, _<_}
-use mathlib.Core.Path.{_≡_}
+use mathlib.Core.Path.{_≡_, ap, sym, _∙_, subst}
 use mathlib.Core.Logic.{_⊎_, inl, inr}
 use native.Mathlib.Omega.{arith}
-use native.Mathlib.Nat.{mul-le-mul-left, div-mul-le-self}
+use native.Mathlib.Nat.{mul-le-mul-left, div-mul-le-self, div-lt-iff-lt-mul, le-div-iff-mul-le, eq-zero-or-pos}
 use borrow.Author.Tests.{lt-ltb, le-ltb}
 use Rattle.model.specs.Supply.{supplyOf}
+use Rattle.model.specs.Meaning.{IsFloor, IsSupply, short, long}
 use Rattle.model.proofs.Tests.{below-or-from}
 
 pub supply-short : (P B t : ℕ) → t < P - B → supplyOf P B t ≡ 0
@@ -17,11 +18,50 @@ pub supply-long : (P B t : ℕ) → P - B ≤ t → supplyOf P B t ≡ (t - (P -
 unfolding supplyOf
 supply-long P B t h = rw (le-ltb _ _ h) (omega arith)
 
+pub floor-means : (x p : ℕ) → 1 ≤ p → IsFloor x p (x / p)
+floor-means x p pos = (div-mul-le-self x p, div-lt-iff-lt-mul {k = p} {x = x} {y = x / p + 1} pos .0 (next (x / p)))
+  where
+    next : (y : ℕ) → y < y + 1
+    next y = omega arith
+
+pub floor-only : (x p y : ℕ) → IsFloor x p y → x / p ≡ y
+floor-only x p y f = go (eq-zero-or-pos p)
+  where
+    pinned : (a b : ℕ) → a ≤ b → b < a + 1 → b ≡ a
+    pinned a b h k = omega (arith, h, k)
+
+    go : (p ≡ 0) ⊎ (0 < p) → x / p ≡ y
+    go (inl z) = let h = subst (λ (q : ℕ). x < (y + 1) * q) z (f .1) in absurd (omega (arith, h))
+    go (inr pos) =
+        pinned y (x / p) (le-div-iff-mul-le {k = p} {x = y} {y = x} pos .1 (f .0))
+        (div-lt-iff-lt-mul {k = p} {x = x} {y = y + 1} pos .1 (f .1))
+
+module _ (P B t : ℕ) where
+  -- what is had beside y whole budgets
+  less : (y : ℕ) → y * B + (t - (2 * (P - B) + y * P)) ≡ y * B + (t - 2 * (P - B) - y * P)
+  less y = ap (λ (n : ℕ). y * B + n) (twice (2 * (P - B)) (y * P))
+    where
+      twice : (a b : ℕ) → t - (a + b) ≡ t - a - b
+      twice a b = omega arith
+
+  pub supply-means : 1 ≤ P → IsSupply P B t (supplyOf P B t)
+  supply-means pos = go (below-or-from t (P - B))
+    where
+      go : (t < P - B) ⊎ (P - B ≤ t) → IsSupply P B t (supplyOf P B t)
+      go (inl h) = short h (supply-short P B t h)
+      go (inr h) =
+          long ((t - (P - B)) / P) h (floor-means (t - (P - B)) P pos) (supply-long P B t h ∙ less ((t - (P - B)) / P))
+
+  pub supply-only : (s : ℕ) → IsSupply P B t s → supplyOf P B t ≡ s
+  supply-only s (short h e) = supply-short P B t h ∙ sym e
+  supply-only s (long y h f e) =
+      supply-long P B t h ∙ ap (λ (q : ℕ). q * B + (t - (2 * (P - B) + q * P))) (floor-only (t - (P - B)) P y f) ∙ less y ∙ sym e
+
 pub supply-most : (P B t : ℕ) → B ≤ P → supplyOf P B t ≤ t
 supply-most P B t fits = go (below-or-from t (P - B))
   where
     go : (t < P - B) ⊎ (P - B ≤ t) → supplyOf P B t ≤ t
-    go (inl short) = omega (arith, supply-short P B t short)
-    go (inr long) =
+    go (inl h) = omega (arith, supply-short P B t h)
+    go (inr h) =
         let y = (t - (P - B)) / P in
-        omega (arith, supply-long P B t long, mul-le-mul-left y fits, div-mul-le-self (t - (P - B)) P)
+        omega (arith, supply-long P B t h, mul-le-mul-left y fits, div-mul-le-self (t - (P - B)) P)

@@ -1,19 +1,41 @@
--- Document 01's sentences on shares as plain statements, with no test and no search in them.
--- proofs/Meaning.antt shows that the definitions of specs/Share.antt say the same, proofs/Replies.antt that the replies do. Assumes nothing.
-use Prim.Native.Nat.{ℕ, _-_, _*_, _≤_}
+-- Document 01's sentences on shares as plain statements of numbers, with no test and no search in them, and none of the definitions that
+-- they are there to check. proofs/Supply.antt, Demand.antt and Meaning.antt show that the definitions of Supply, Demand and Share say the
+-- same, proofs/Table.antt and Replies.antt that the replies do. Assumes nothing.
+use Prim.Native.Nat.{ℕ, zero, suc, _+_, _-_, _*_, _≤_, _<_}
 use mathlib.Core.Path.{_≡_}
 use mathlib.Core.List.{List}
 use lib.ListN.{length, getD}
-use Rattle.model.specs.Supply.{supplyOf}
-use Rattle.model.specs.Demand.{demandOf}
 use Rattle.model.specs.Share.{Share}
+
+-- y = floor(x / p)
+abbrev pub IsFloor : ℕ → ℕ → ℕ → Type 0
+IsFloor x p y = (y * p ≤ x) × (x < (y + 1) * p)
+
+-- y = ceil(x / p): so many times p is at least x, and fewer times is not
+abbrev pub IsCeil : ℕ → ℕ → ℕ → Type 0
+IsCeil x p y = (x ≤ y * p) × ((z : ℕ) → x ≤ z * p → y ≤ z)
+
+-- "0 if t < g. Otherwise y = floor((t - g)/P), and supply = y·B + max(0, t - 2g - y·P)", g = P - B; ℕ's minus stops at 0 by itself
+pub data IsSupply (P B t supply : ℕ) : Type 0 where
+  short : t < P - B → supply ≡ 0 → IsSupply P B t supply
+  long : (y : ℕ) → P - B ≤ t → IsFloor (t - (P - B)) P y → supply ≡ y * B + (t - 2 * (P - B) - y * P) → IsSupply P B t supply
+
+-- "the sum over k from 1 to i of ceil(t / p_k)·e_k": the sum of the tasks before the last, and the last one's ceil and cost
+abbrev pub IsDemand : List ℕ → List ℕ → ℕ → ℕ → ℕ → Type 0
+IsDemand periods costs zero t demand = demand ≡ 0
+IsDemand periods costs (suc i) t demand =
+    (before y : ℕ) × IsDemand periods costs i t before × IsCeil t (getD periods i 0) y × (demand ≡ before + y * getD costs i 0)
 
 -- there is a whole t from 1 to p_i with supply at least demand
 pub record Met (P B : ℕ) (periods costs : List ℕ) (i : ℕ) : Type 0 where
   pub t : ℕ
+  pub supply : ℕ
+  pub demand : ℕ
   pub from-1 : 1 ≤ t
   pub to-p : t ≤ getD periods (i - 1) 0
-  pub enough : demandOf periods costs i t ≤ supplyOf P B t
+  pub supplied : IsSupply P B t supply
+  pub demanded : IsDemand periods costs i t demand
+  pub enough : demand ≤ supply
 
 -- the tasks pass with (P, B): so it is for every i
 abbrev pub Pass : ℕ → ℕ → List ℕ → List ℕ → Type 0

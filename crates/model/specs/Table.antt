@@ -5,11 +5,9 @@ use mathlib.Core.Path.{_≡_}
 use mathlib.Core.Logic.{_⊎_, _↔_}
 use mathlib.Core.List.{List, [], _∷_}
 use lib.ListN.{length, getD}
-use Rattle.model.specs.Supply.{supplyOf}
-use Rattle.model.specs.Demand.{demandOf}
 use Rattle.model.specs.Share.{Share}
 use Rattle.model.specs.Reply.{refuses, gives}
-use Rattle.model.specs.Meaning.{Pass, IsLeast, NoBudget, IsBest, NoShare}
+use Rattle.model.specs.Meaning.{IsSupply, IsDemand, Pass, IsLeast, NoBudget, IsBest, NoShare}
 use Rattle.model.specs.Asked.{Work, Asked, supply, demand, check, least, best, replyTo}
 
 -- n is not low to high
@@ -89,8 +87,8 @@ NoRow asked = (number : ℕ) → Row asked number → ⊥
 
 -- these values are the result: "passes" is 1, "doesn't" is 0
 abbrev pub Result : Asked → List ℕ → Type 0
-Result (supply P B t) values = values ≡ supplyOf P B t ∷ []
-Result (demand w i t) values = values ≡ demandOf (w .periods) (w .costs) i t ∷ []
+Result (supply P B t) values = (s : ℕ) × (values ≡ s ∷ []) × IsSupply P B t s
+Result (demand w i t) values = (d : ℕ) × (values ≡ d ∷ []) × IsDemand (w .periods) (w .costs) i t d
 Result (check w P B) values =
     ((values ≡ 1 ∷ []) × Pass P B (w .periods) (w .costs)) ⊎ ((values ≡ 0 ∷ []) × (Pass P B (w .periods) (w .costs) → ⊥))
 Result (least w P) values = (B : ℕ) × (values ≡ B ∷ []) × IsLeast P (w .periods) (w .costs) B
