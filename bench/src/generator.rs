@@ -1,6 +1,7 @@
-//! The calls of the program `pace` (crates/pace/src/main.rt), and its sum over the replies.
+//! The calls of the program `pace` (crates/pace/src/main.rt), and its sums over the replies.
 
 use crate::call::{Change, Description, Reply};
+use std::fmt::{self, Display, Formatter};
 
 /// What is asked: how many VCPUs, mixed (0) or busy, how many calls.
 #[derive(Clone, Copy)]
@@ -10,13 +11,37 @@ pub struct Plan {
     pub calls: u64,
 }
 
-/// What the generator remembers: the time of the last accepted call, the timer, a sum over the
-/// replies, and how many were refused.
+/// Stands for no timer; no timer is so late.
+const NEVER: u64 = u64::MAX;
+
+/// Stands for idle; no identifier is so large.
+const NOBODY: u64 = 16777216;
+
+/// What the generator remembers: the time of the last accepted call and the timer; the sums, of
+/// times and timers, of the identifiers that ran, of usable amounts, of refusals' numbers, of their
+/// details; and how many calls were refused.
+#[derive(Default)]
 pub struct Seen {
-    t: u64,
+    last: u64,
     timer: u64,
-    pub sum: u64,
-    pub refused: u64,
+    times: u64,
+    tunnels: u64,
+    amounts: u64,
+    numbers: u64,
+    details: u64,
+    refused: u64,
+}
+
+impl Display for Seen {
+    fn fmt(&self, to: &mut Formatter) -> fmt::Result {
+        write!(to, "{} {} {} ", self.times, self.tunnels, self.amounts)?;
+        write!(to, "{} {} {}", self.numbers, self.details, self.refused)
+    }
+}
+
+/// A sum with one more number of its kind.
+fn join(sum: &mut u64, number: u64) {
+    *sum = (*sum * 31 + number % 1099511627776) % 1000000007;
 }
 
 fn id_of(k: u64) -> u32 {
@@ -39,8 +64,8 @@ fn bad_terms(k: u64, d: u64) -> Description {
     }
 }
 
-fn busy(n: u64, d: u64, t: u64, timer: u64) -> (u64, Change) {
-    let now = (t + d / 32 % 16).min(timer);
+fn busy(n: u64, d: u64, last: u64, timer: u64) -> (u64, Change) {
+    let now = (last + d / 32 % 16).min(timer);
     let who = id_of(d / 512 % n);
     let change = match d % 32 {
         0..=19 => Change::Tick,
@@ -52,11 +77,11 @@ fn busy(n: u64, d: u64, t: u64, timer: u64) -> (u64, Change) {
 }
 
 /// A call that some row refuses; the late one is accepted where the timer is later still.
-fn wrong(sel: u64, n: u64, d: u64, t: u64, now: u64) -> (u64, Change) {
+fn wrong(sel: u64, n: u64, d: u64, last: u64, now: u64) -> (u64, Change) {
     let who = d / 512 % n;
     match sel {
-        28 => (t + 21, Change::Wake(id_of(who))),
-        29 => (t.saturating_sub(1), Change::Tick),
+        28 => (last + 21, Change::Wake(id_of(who))),
+        29 => (last.saturating_sub(1), Change::Tick),
         30 => (1000000000001, Change::Tick),
         31 => (now, Change::Wake(16777216)),
         32 => (now, Change::Admit(bad_terms(who, d))),
@@ -67,8 +92,8 @@ fn wrong(sel: u64, n: u64, d: u64, t: u64, now: u64) -> (u64, Change) {
 }
 
 /// Once in 32 calls a VCPU is removed, and admitted anew by the next call.
-fn mixed(k: u64, n: u64, d: u64, t: u64, timer: u64) -> (u64, Change) {
-    let now = (t + d / 32 % 16).min(timer);
+fn mixed(k: u64, n: u64, d: u64, last: u64, timer: u64) -> (u64, Change) {
+    let now = (last + d / 32 % 16).min(timer);
     let who = id_of(d / 512 % n);
     let place = k / 32 % n;
     match (k % 32, d % 36) {
@@ -77,50 +102,48 @@ fn mixed(k: u64, n: u64, d: u64, t: u64, timer: u64) -> (u64, Change) {
         (_, 0..=9) => (now, Change::Tick),
         (_, 10..=19) => (now, Change::Wake(who)),
         (_, 20..=27) => (now, Change::Block(who)),
-        (_, sel) => wrong(sel, n, d, t, now),
+        (_, sel) => wrong(sel, n, d, last, now),
     }
 }
 
 fn call(k: u64, plan: Plan, s: u64, seen: &Seen) -> (u64, Change) {
     let (n, d) = (plan.vcpus, s / 64);
     if k < n {
-        (seen.t, Change::Admit(terms(k, d)))
+        (seen.last, Change::Admit(terms(k, d)))
     } else if k < n + n {
-        (seen.t, Change::Wake(id_of(k - n)))
+        (seen.last, Change::Wake(id_of(k - n)))
     } else if plan.mix == 0 {
-        mixed(k, n, d, seen.t, seen.timer)
+        mixed(k, n, d, seen.last, seen.timer)
     } else {
-        busy(n, d, seen.t, seen.timer)
+        busy(n, d, seen.last, seen.timer)
     }
 }
 
 impl Seen {
     fn note(&mut self, reply: Reply) {
-        let more = match reply {
+        match reply {
             Ok(report) => {
-                self.t = report.time;
-                self.timer = report.timer.unwrap_or(u64::MAX);
-                report.time % 1000003
-                    + report.run.map_or(7, u64::from) % 1000003 * 3
-                    + u64::from(report.usable) % 1000003 * 5
-                    + self.timer % 1000003
+                self.last = report.time;
+                self.timer = report.timer.unwrap_or(NEVER);
+                join(&mut self.times, self.last);
+                join(&mut self.times, self.timer);
+                join(&mut self.tunnels, report.run.map_or(NOBODY, u64::from));
+                join(&mut self.amounts, u64::from(report.usable));
             }
             Err(refusal) => {
                 self.refused += 1;
-                u64::from(refusal.number) + refusal.detail % 1000003
+                join(&mut self.numbers, u64::from(refusal.number));
+                join(&mut self.details, refusal.detail);
             }
-        };
-        self.sum = (self.sum * 31 + more) % 1000000007;
+        }
     }
 }
 
 /// Makes the calls, each from what the earlier ones were answered.
 pub fn run(plan: Plan, mut turn: impl FnMut(u64, Change) -> Reply) -> Seen {
     let mut seen = Seen {
-        t: 0,
-        timer: u64::MAX,
-        sum: 0,
-        refused: 0,
+        timer: NEVER,
+        ..Seen::default()
     };
     let mut s = 12345u64;
     for k in 0..plan.calls {

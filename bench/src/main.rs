@@ -33,7 +33,7 @@ fn asked() -> Option<Plan> {
 fn calls(mut core: impl Scheduler) -> io::Result<()> {
     let plan = asked().ok_or(io::Error::other("fifteen digits are wanted"))?;
     let seen = generator::run(plan, |now, change| core.turn(now, change));
-    println!("{} {}", seen.sum, seen.refused);
+    println!("{seen}");
     Ok(())
 }
 

@@ -1,4 +1,5 @@
-// Times the calls: it makes them from a deterministic generator, and writes a sum over the replies and how many were refused.
+// Times the calls: it makes them from a deterministic generator, and writes sums over the replies and how many were refused. Each kind of
+// number has a sum of its own: moments, identifiers, amounts, and the numbers and the details of refusals.
 // Standard input: four digits for how many VCPUs, one for the mix (0 mixed, 1 busy), ten for how many calls.
 use libc::STDIN_FILENO;
 use libc::STDOUT_FILENO;
@@ -16,18 +17,27 @@ use units::Moment;
 use units::Tunnel;
 ghost use Prim.Native.Nat.{_≤_, _<_};
 
+// Stands for no timer; no timer is so late.
 const NEVER: u64 = 18446744073709551615;
 
+// Stands for idle; no identifier is so large.
+const NOBODY: u64 = 16777216;
+
 struct Event {
-    now: u64,
+    now: Moment,
     change: Change,
 }
 
-// What the generator remembers: the time of the last accepted call, the timer, a sum over the replies, and how many were refused.
+// What the generator remembers: the time of the last accepted call and the timer; the sums, of times and timers, of the identifiers that
+// ran, of usable amounts, of refusals' numbers, of their details; and how many calls were refused.
 struct Seen {
-    t: u64,
-    timer: u64,
-    sum: u64,
+    last: Moment,
+    timer: Moment,
+    times: u64,
+    tunnels: u64,
+    amounts: u64,
+    numbers: u64,
+    details: u64,
     refused: u64,
 }
 
@@ -59,20 +69,26 @@ fn bad_terms(k: u64, d: u64) -> Description {
     }
 }
 
-fn clamped(now: u64, timer: u64) -> u64 {
-    if timer < now { timer } else { now }
+// Some ticks after the last accepted call, but not past the timer.
+fn next(last: Moment, d: u64, timer: Moment) -> Moment {
+    let now = last.plus(Amount::new((d / 32 % 16) as u32));
+    if timer.before(now) { timer } else { now }
 }
 
-fn earlier(t: u64) -> u64 {
-    if t == 0 { 0 } else { t - 1 }
+fn earlier(t: Moment) -> Moment {
+    let ticks = t.ticks();
+    if ticks == 0 {
+        t
+    } else {
+        Moment::new(ticks - 1)
+    }
 }
 
-fn busy(n: u64, d: u64, t: u64, timer: u64) -> Event
+fn busy(n: u64, d: u64, last: Moment, timer: Moment) -> Event
     requires { ⌜ (1 ≤ n) × (n ≤ 9999) ⌝ }
-    requires { ⌜ t < 1099511627776 ⌝ }
 {
     let sel = d % 32;
-    let now = clamped(t + d / 32 % 16, timer);
+    let now = next(last, d, timer);
     let who = id_of(d / 512 % n);
     if sel < 20 {
         return Event {
@@ -124,27 +140,26 @@ fn wrong_change(sel: u64, n: u64, who: u64, d: u64) -> Change
 }
 
 // A call that some row refuses; the late one is accepted where the timer is later still.
-fn wrong(sel: u64, n: u64, d: u64, t: u64, now: u64) -> Event
+fn wrong(sel: u64, n: u64, d: u64, last: Moment, now: Moment) -> Event
     requires { ⌜ (1 ≤ n) × (n ≤ 9999) ⌝ }
-    requires { ⌜ t < 1099511627776 ⌝ }
 {
     let who = d / 512 % n;
     if sel < 29 {
         let id = id_of(who);
         return Event {
-            now: t + 21,
+            now: last.plus(Amount::new(21)),
             change: Change::Wake(id),
         };
     }
     if sel < 30 {
         return Event {
-            now: earlier(t),
+            now: earlier(last),
             change: Change::Tick,
         };
     }
     if sel < 31 {
         return Event {
-            now: 1000000000001,
+            now: Moment::new(1000000000001),
             change: Change::Tick,
         };
     }
@@ -153,9 +168,8 @@ fn wrong(sel: u64, n: u64, d: u64, t: u64, now: u64) -> Event
 }
 
 // A tick, a wake, a block, or a call that is refused.
-fn any(n: u64, d: u64, t: u64, now: u64) -> Event
+fn any(n: u64, d: u64, last: Moment, now: Moment) -> Event
     requires { ⌜ (1 ≤ n) × (n ≤ 9999) ⌝ }
-    requires { ⌜ t < 1099511627776 ⌝ }
 {
     let sel = d % 36;
     let id = id_of(d / 512 % n);
@@ -177,15 +191,14 @@ fn any(n: u64, d: u64, t: u64, now: u64) -> Event
             change: Change::Block(id),
         };
     }
-    wrong(sel, n, d, t, now)
+    wrong(sel, n, d, last, now)
 }
 
 // Once in 32 calls a VCPU is removed, and admitted anew by the next call.
-fn mixed(k: u64, n: u64, d: u64, t: u64, timer: u64) -> Event
+fn mixed(k: u64, n: u64, d: u64, last: Moment, timer: Moment) -> Event
     requires { ⌜ (1 ≤ n) × (n ≤ 9999) ⌝ }
-    requires { ⌜ t < 1099511627776 ⌝ }
 {
-    let now = clamped(t + d / 32 % 16, timer);
+    let now = next(last, d, timer);
     let place = k / 32 % n;
     if k % 32 == 0 {
         let id = id_of(place);
@@ -201,86 +214,86 @@ fn mixed(k: u64, n: u64, d: u64, t: u64, timer: u64) -> Event
             change: Change::Admit(new),
         };
     }
-    any(n, d, t, now)
+    any(n, d, last, now)
 }
 
-fn call(k: u64, n: u64, mix: u64, s: u64, t: u64, timer: u64) -> Event
+fn call(k: u64, n: u64, mix: u64, s: u64, last: Moment, timer: Moment) -> Event
     requires { ⌜ (1 ≤ n) × (n ≤ 9999) ⌝ }
-    requires { ⌜ t < 1099511627776 ⌝ }
 {
     let d = s / 64;
     if k < n {
         let new = terms(k, d);
         return Event {
-            now: t,
+            now: last,
             change: Change::Admit(new),
         };
     }
     if k < n + n {
         let id = id_of(k - n);
         return Event {
-            now: t,
+            now: last,
             change: Change::Wake(id),
         };
     }
     if mix == 0 {
-        return mixed(k, n, d, t, timer);
+        return mixed(k, n, d, last, timer);
     }
-    busy(n, d, t, timer)
+    busy(n, d, last, timer)
 }
 
-fn holder_number(run: Holder) -> u64 {
+fn tunnel_number(run: Holder) -> u64 {
     match run {
-        Holder::Idle => 7,
+        Holder::Idle => NOBODY,
         Holder::Vcpu(id) => id.number() as u64,
     }
 }
 
-fn timer_number(timer: Timer) -> u64 {
+fn timer_moment(timer: Timer) -> Moment {
     match timer {
-        Timer::Unset => NEVER,
-        Timer::At(m) => m.ticks(),
+        Timer::Unset => Moment::new(NEVER),
+        Timer::At(m) => m,
     }
 }
 
-fn seen_done(old: Seen, r: Report) -> Seen
-    requires { ⌜ old .sum < 1000000007 ⌝ }
-    ensures { λ r. ⌜ (r .t < 1099511627776) × (r .sum < 1000000007) ⌝ }
-{
+// A sum with one more number of its kind.
+fn joined(sum: u64, number: u64) -> u64 {
+    (sum % 4294967296 * 31 + number % 1099511627776) % 1000000007
+}
+
+fn seen_done(old: Seen, r: Report) -> Seen {
     let run = r.run;
     let time = r.time;
     let usable = r.usable;
-    let timer = r.timer;
-    let who = holder_number(run) % 1000003;
-    let at = timer_number(timer);
-    let t = time.ticks();
-    let u = usable.ticks() as u64;
+    let until = r.timer;
+    let timer = timer_moment(until);
     Seen {
-        t: t % 1099511627776,
-        timer: at,
-        sum: (old.sum * 31 + t % 1000003 + who * 3 + u % 1000003 * 5 + at % 1000003) % 1000000007,
+        last: time,
+        timer,
+        times: joined(joined(old.times, time.ticks()), timer.ticks()),
+        tunnels: joined(old.tunnels, tunnel_number(run)),
+        amounts: joined(old.amounts, usable.ticks() as u64),
+        numbers: old.numbers,
+        details: old.details,
         refused: old.refused,
     }
 }
 
-fn seen_no(old: Seen, x: Refusal) -> Seen
-    requires { ⌜ (old .sum < 1000000007) × (old .t < 1099511627776) ⌝ }
-    ensures { λ r. ⌜ (r .t < 1099511627776) × (r .sum < 1000000007) ⌝ }
-{
-    let number = x.number as u64;
-    let detail = x.detail;
+fn seen_no(old: Seen, x: Refusal) -> Seen {
+    let last = old.last;
+    let timer = old.timer;
     Seen {
-        t: old.t,
-        timer: old.timer,
-        sum: (old.sum * 31 + number % 1000003 + detail % 1000003) % 1000000007,
+        last,
+        timer,
+        times: old.times,
+        tunnels: old.tunnels,
+        amounts: old.amounts,
+        numbers: joined(old.numbers, x.number as u64),
+        details: joined(old.details, x.detail),
         refused: (old.refused % 1000000000000 + 1),
     }
 }
 
-fn noted(old: Seen, reply: Reply) -> Seen
-    requires { ⌜ (old .sum < 1000000007) × (old .t < 1099511627776) ⌝ }
-    ensures { λ r. ⌜ (r .t < 1099511627776) × (r .sum < 1000000007) ⌝ }
-{
+fn noted(old: Seen, reply: Reply) -> Seen {
     match reply {
         Reply::Done(r) => seen_done(old, r),
         Reply::No(x) => seen_no(old, x),
@@ -331,23 +344,35 @@ fn ran(n: u64, mix: u64, calls: u64) -> Seen
         }),
     };
     let mut had = Seen {
-        t: 0,
-        timer: NEVER,
-        sum: 0,
+        last: Moment::new(0),
+        timer: Moment::new(NEVER),
+        times: 0,
+        tunnels: 0,
+        amounts: 0,
+        numbers: 0,
+        details: 0,
         refused: 0,
     };
     let mut s = 12345u64;
     let mut k = 0u64;
     while k < calls {
         s = draw(s);
-        let c = call(k, n, mix, s, had.t, had.timer);
+        let last = had.last;
+        let timer = had.timer;
+        let c = call(k, n, mix, s, last, timer);
+        let now = c.now;
         let change = c.change;
-        answer = answer.core.turn(Moment::new(c.now), change);
+        answer = answer.core.turn(now, change);
         let reply = answer.reply;
         had = noted(had, reply);
         k += 1;
     }
     had
+}
+
+fn put(sum: u64) {
+    io::print_decimal(STDOUT_FILENO, sum);
+    io::write_all(STDOUT_FILENO, b" ");
 }
 
 fn main() {
@@ -357,8 +382,11 @@ fn main() {
     let mix = number(&input, 4, 5);
     let calls = number(&input, 5, 15);
     let had = ran(n, mix, calls);
-    io::print_decimal(STDOUT_FILENO, had.sum);
-    io::write_all(STDOUT_FILENO, b" ");
+    put(had.times);
+    put(had.tunnels);
+    put(had.amounts);
+    put(had.numbers);
+    put(had.details);
     io::print_decimal(STDOUT_FILENO, had.refused);
     io::write_all(STDOUT_FILENO, b"\n");
 }

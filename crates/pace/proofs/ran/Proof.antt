@@ -1,19 +1,25 @@
--- `pace::ran` meets its contract: the core stays valid, and the numbers stay small. Assumes nothing.
-use Prim.Native.Nat.{_<_, _-_}
+-- `pace::ran` meets its contract: the core stays valid. Assumes nothing.
+use Prim.Native.Nat.{_-_}
+use native.Mathlib.Omega.{arith}
 use Rattle.turns.specs.State.{ValidCore}
 use borrow.Author.Needs.{needs}
 use Rattle.pace.proofs.ran.Statement.{statement}
 use Rattle.pace.proofs.ran.Tie as tie
 
 abbrev Inv-loop : tie.InvT-loop
-Inv-loop n mix calls answer₀ had₀ s₀ k₀ answer had s k =
-    ValidCore (answer .core) × (had .t < 1099511627776) × (had .sum < 1000000007)
+Inv-loop n mix calls answer₀ had₀ s₀ k₀ answer had s k = ValidCore (answer .core)
 
 abbrev μ-loop : tie.MeasureT-loop
 μ-loop n mix calls answer₀ had₀ s₀ k₀ answer had s k = calls - k
 
 empty-requires : tie.Need-empty-requires Inv-loop μ-loop
 empty-requires c κs = search needs
+
+new-requires : tie.Need-new-requires Inv-loop μ-loop
+new-requires c κs = search needs
+
+new-requires-2 : tie.Need-new-requires-2 Inv-loop μ-loop
+new-requires-2 c κs = search needs
 
 loop-holds : tie.Need-loop-holds Inv-loop μ-loop
 loop-holds c = search needs
@@ -24,9 +30,6 @@ draw-requires c κs = search needs
 call-requires : tie.Need-call-requires Inv-loop μ-loop
 call-requires c κs = search needs
 
-new-requires : tie.Need-new-requires Inv-loop μ-loop
-new-requires c κs = search needs
-
 turn-requires : tie.Need-turn-requires Inv-loop μ-loop
 turn-requires c κs = search needs
 
@@ -34,7 +37,9 @@ noted-requires : tie.Need-noted-requires Inv-loop μ-loop
 noted-requires c κs = search needs
 
 add-k : tie.Need-add-k Inv-loop μ-loop
-add-k c = search needs
+add-k c =
+    let test = c .before .before .before .before .before .before .before in
+    record { fits = omega (arith, test .loop-test .taken, test .before .before .before .before .before .fits .calls) }
 
 loop-less : tie.Need-loop-less Inv-loop μ-loop
 loop-less c = search needs
@@ -52,10 +57,11 @@ ran-spec =
     Inv-loop
     μ-loop
     empty-requires
+    new-requires
+    new-requires-2
     loop-holds
     draw-requires
     call-requires
-    new-requires
     turn-requires
     noted-requires
     add-k
