@@ -1,17 +1,18 @@
 -- The complete replies of model's specs/Rows.antt, case by case: each row where it applies, and the result where none does.
 -- Assumes nothing.
 use Prim.Native.Nat.{ℕ, _≤_, _<_}
-use mathlib.Core.Path.{_≡_, _∙_}
-use mathlib.Core.Bool.{Bool, true, false, cond}
+use mathlib.Core.Path.{_≡_, ap, sym, _∙_}
+use mathlib.Core.Bool.{Bool, true, false, cond, not}
 use mathlib.Core.List.{List, [], _∷_}
 use native.Mathlib.Omega.{arith}
 use borrow.Author.Tests.{lt-ltb, le-ltb, le-leb, lt-leb, ne-eqb}
+use lib.Dec.{eqb}
 use lib.ListN.{length}
 use Rattle.model.specs.Supply.{supplyOf}
 use Rattle.model.specs.Demand.{demandOf}
-use Rattle.model.specs.Share.{passes, leastOf, bestOf}
+use Rattle.model.specs.Share.{passes}
 use Rattle.model.specs.Reply.{Reply, gives, refuses}
-use Rattle.model.specs.Rows.{within, inRange, tasksRow, tasksRows, supplyReply, demandReply, checkReply, leastReply, bestReply}
+use Rattle.model.specs.Rows.{row, inRange, tasksRow, tasksRows, supplyReply, demandReply, checkReply}
 use Rattle.shares.specs.declared.answers.Refusal.{Refusal}
 use Rattle.shares.specs.Paper.{paperRefusal}
 
@@ -39,21 +40,11 @@ module _ (ps es : List ℕ) where
   unfolding tasksRows
   rows-pass rest h = rw h
 
-  pub demand-rows : (i t : ℕ) → (tasksRow ps es ≡ 0 → ⊥) → demandReply ps es i t ≡ refuses (tasksRow ps es) 0
-  unfolding demandReply
-  demand-rows i t h = rows-refuse _ h
-
-  pub check-rows : (P B : ℕ) → (tasksRow ps es ≡ 0 → ⊥) → checkReply ps es P B ≡ refuses (tasksRow ps es) 0
-  unfolding checkReply
-  check-rows P B h = rows-refuse _ h
-
-  pub least-rows : (P : ℕ) → (tasksRow ps es ≡ 0 → ⊥) → leastReply ps es P ≡ refuses (tasksRow ps es) 0
-  unfolding leastReply
-  least-rows P h = rows-refuse _ h
-
-  pub best-rows : (P : ℕ) → (tasksRow ps es ≡ 0 → ⊥) → bestReply ps es P ≡ refuses (tasksRow ps es) 0
-  unfolding bestReply
-  best-rows P h = rows-refuse _ h
+  -- of demand, check, least and best: the refusal by rows 30 to 32 that the code gives is the reply's, whatever the rows below
+  pub refused-row : (rest : Reply) (n : ℕ) (r : Refusal) → n ≡ tasksRow ps es → (n ≡ 0 → ⊥) → (r .number ≡ n) × (r .detail ≡ 0)
+      → paperRefusal r ≡ tasksRows ps es rest
+  refused-row rest n r e some h =
+      refused r n h ∙ ap (λ (k : ℕ). refuses k 0) e ∙ sym (rows-refuse rest (λ z. some (e ∙ z)))
 
   module _ (ok : tasksRow ps es ≡ 0) where
     pub demand-long : (i t : ℕ) → 2000 < t → demandReply ps es i t ≡ refuses 35 0
@@ -72,35 +63,20 @@ module _ (ps es : List ℕ) where
     unfolding demandReply
     demand-gives i t h p l = rows-pass _ ok ∙ rw (le-ltb 2000 t h) (rw (le-leb 1 i p, le-leb i (length ps) l))
 
-    pub check-33 : (P B : ℕ) → inRange P B ≡ false → checkReply ps es P B ≡ refuses 33 0
-    unfolding checkReply
-    check-33 P B h = rows-pass _ ok ∙ rw h
+    -- of check, least and best: the refusal by row 33
+    pub refused-33 : (rest : Reply) (fits : Bool) (r : Refusal) → fits ≡ false → (r .number ≡ 33) × (r .detail ≡ 0)
+        → paperRefusal r ≡ tasksRows ps es (row (not fits) 33 0 rest)
+    refused-33 rest fits r out h = refused r 33 h ∙ sym (rows-pass _ ok ∙ rw out)
+
+    -- of least and best: the refusal by row 34, and the result
+    pub refused-34 : (rest : Reply) (fits : Bool) (budget : ℕ) (r : Refusal) → fits ≡ true → budget ≡ 0
+        → (r .number ≡ 34) × (r .detail ≡ 0) → paperRefusal r ≡ tasksRows ps es (row (not fits) 33 0 (row (eqb budget 0) 34 0 rest))
+    refused-34 rest fits budget r in-range z h = refused r 34 h ∙ sym (rows-pass _ ok ∙ rw (in-range, z))
+
+    pub given : (values : List ℕ) (fits : Bool) (budget : ℕ) → fits ≡ true → (budget ≡ 0 → ⊥)
+        → gives values ≡ tasksRows ps es (row (not fits) 33 0 (row (eqb budget 0) 34 0 (gives values)))
+    given values fits budget in-range some = sym (rows-pass _ ok ∙ rw (in-range, ne-eqb budget 0 some))
 
     pub check-gives : (P B : ℕ) (b : Bool) → inRange P B ≡ true → passes P ps es B ≡ b → checkReply ps es P B ≡ gives (cond b 1 0 ∷ [])
     unfolding checkReply
     check-gives P B b h e = rows-pass _ ok ∙ rw (h, e)
-
-    pub least-33 : (P : ℕ) → within P 2000 ≡ false → leastReply ps es P ≡ refuses 33 0
-    unfolding leastReply
-    least-33 P h = rows-pass _ ok ∙ rw h
-
-    pub least-34 : (P : ℕ) → within P 2000 ≡ true → leastOf P ps es ≡ 0 → leastReply ps es P ≡ refuses 34 0
-    unfolding leastReply
-    least-34 P h e = rows-pass _ ok ∙ rw (h, e)
-
-    pub least-gives : (P : ℕ) → within P 2000 ≡ true → (leastOf P ps es ≡ 0 → ⊥) → leastReply ps es P ≡ gives (leastOf P ps es ∷ [])
-    unfolding leastReply
-    least-gives P h e = rows-pass _ ok ∙ rw (h, ne-eqb (leastOf P ps es) 0 e)
-
-    pub best-33 : (P : ℕ) → within P 2000 ≡ false → bestReply ps es P ≡ refuses 33 0
-    unfolding bestReply
-    best-33 P h = rows-pass _ ok ∙ rw h
-
-    pub best-34 : (P : ℕ) → within P 2000 ≡ true → bestOf ps es P .budget ≡ 0 → bestReply ps es P ≡ refuses 34 0
-    unfolding bestReply
-    best-34 P h e = rows-pass _ ok ∙ rw (h, e)
-
-    pub best-gives : (P : ℕ) → within P 2000 ≡ true → (bestOf ps es P .budget ≡ 0 → ⊥)
-        → bestReply ps es P ≡ gives (bestOf ps es P .period ∷ bestOf ps es P .budget ∷ [])
-    unfolding bestReply
-    best-gives P h e = rows-pass _ ok ∙ rw (h, ne-eqb (bestOf ps es P .budget) 0 e)

@@ -1,6 +1,6 @@
 -- The rows of model's specs/Rows.antt at the place that a loop looks at, and what lists are like that no row refuses.
 -- Assumes nothing.
-use Prim.Native.Nat.{ℕ, suc, _+_, _-_, _≤_, _<_}
+use Prim.Native.Nat.{ℕ, suc, _+_, _-_, _*_, _≤_, _<_}
 use mathlib.Core.Path.{_≡_, refl, sym, _∙_}
 use mathlib.Core.Bool.{Bool, true, false, cond, not}
 use mathlib.Core.List.{List}
@@ -15,7 +15,7 @@ use Rattle.model.specs.Rows.{within, inRange, miscounted, outOfRange, falls, ta
 use Rattle.model.proofs.Tests.{or-right, and-both, or-neither}
 use Rattle.model.proofs.Places.{NoneOf, first-at, first-none, first-smallest}
 use Rattle.model.proofs.Replies.{in-range}
-use Rattle.shares.specs.Table.{Tasks}
+use Rattle.shares.specs.Table.{Tasks, longest, Filled, Leaps, Ready}
 
 -- a loop that looks at place 1, 2, .. and leaves at the first that has the test: what it knows after i places
 pub none-yet : (f : ℕ → Bool) → NoneOf f 0
@@ -130,3 +130,9 @@ tasks-fit ps es h =
     go false ea true eb c ec h = absurd (omega arith)
     go false ea false eb true ec h = absurd (omega arith)
     go false ea false eb false ec h = as-tasks ps es ea (empty (outOfRange ps es) eb) (empty (falls ps) ec)
+
+-- what check, least and best hand to the search
+pub ready : (ps es demands leaps : List ℕ) (P : ℕ) → tasksRow ps es ≡ 0 → (1 ≤ P) × (P ≤ 2000)
+    → Filled ps es demands ((longest ps + 1) * 16) → Leaps ps es leaps (length ps * 2001) → Ready ps es demands leaps P
+ready ps es demands leaps P ok fits table leaps-table =
+    record { tasks = tasks-fit ps es ok; table = table; leaps-table = leaps-table; period-least = fits .0; period-most = fits .1 }

@@ -1,4 +1,4 @@
--- `answered` ends: each go reads a byte. Assumes nothing.
+-- `answered` ends: each go reads a byte. The places that its proof looks at are named there, each from the next. Assumes nothing.
 use mathlib.Core.Path.{_≡_}
 use Prim.Native.Nat.{_≤_, _-_}
 use native.Mathlib.Omega.{arith}
@@ -44,13 +44,21 @@ add-from c = search needs
 
 loop-less : tie.Need-loop-less Inv-loop μ-loop
 loop-less c =
-    let l = c .before .before .before .before .before .before .before .before .before .before .before .loop in
-    let left = c .before .before .before .before .before .before .before .before .before .before .loop-test .taken in
-    let input = c .before .before .before .before .before .before .before .before .before .before .before .before .before .before .args .input .now in
-    let part = take (length input - l .from) (drop (l .from) input) in
-    let s = c .before .before .before .before .before .before .before .serve in
-    let size = length-take-le (length input - l .from) (drop (l .from) input) (omega (arith, length-drop (l .from) input)) in
-    omega (arith, left, some-used (l .line) part (l .out) (s .last .1 .1 .0) (s .result) (s .ensures) (omega (arith, c .before .before .before .before .before .before .before .before .before .before .before .before .before .before .pre, l .inv .1)) (omega (arith, left, size)))
+    let served = c .before .before .before .before .before .before .before in
+    let test = served .before .before .before in
+    let head = test .before in
+    let start = head .before .before .before in
+    let s = served .serve in
+    let l = head .loop in
+    let left = test .loop-test .taken in
+    let input = start .args .input .now in
+    let rest = length input - l .from in
+    let part = take rest (drop (l .from) input) in
+    let size = length-take-le rest (drop (l .from) input) (omega (arith, length-drop (l .from) input)) in
+    let used =
+    some-used (l .line) part (l .out) (s .last .1 .1 .0) (s .result) (s .ensures) (omega (arith, start .pre, l .inv .1))
+    (omega (arith, left, size)) in
+    omega (arith, left, used)
 
 loop-again : tie.Need-loop-again Inv-loop μ-loop
 loop-again c = search needs

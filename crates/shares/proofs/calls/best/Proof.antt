@@ -1,17 +1,64 @@
--- `best` gives the complete reply of model's specs/Rows.antt. Assumes nothing.
+-- `best` gives the complete reply of model's specs/Rows.antt. Its places are named once, each from the next named one before it.
+-- Assumes nothing.
 use borrow.Author.Needs.{needs}
-use Rattle.model.specs.Share.{Share}
-use Rattle.model.specs.Reply.{refuses, gives}
+use Rattle.model.specs.Share.{Share, bestOf}
+use Rattle.model.specs.Reply.{gives}
+use Rattle.model.specs.Rows.{within, tasksRow, bestReply}
 use Rattle.model.proofs.Replies.{is-within}
-use Rattle.shares.proofs.RowLaws.{tasks-fit}
+use Rattle.shares.specs.Table.{Tasks}
+use Rattle.shares.proofs.RowLaws.{tasks-fit, ready}
+use Rattle.shares.proofs.ReplyLaws.{refused-row, refused-33, refused-34, given}
 use lib.ListN.{length-replicate}
-use mathlib.Core.List.{[], _∷_}
-use Rattle.shares.proofs.ReplyLaws.{refused, best-rows, best-33, best-34, best-gives}
+use mathlib.Core.List.{List, [], _∷_}
+use mathlib.Core.Bool.{true}
 use borrow.Author.Tests.{not-true, not-false}
-use mathlib.Core.Path.{sym, _∙_, ap}
-use Prim.Native.Nat.{ℕ, _-_}
+use mathlib.Core.Path.{_≡_, sym, _∙_, ap}
+use Prim.Native.Nat.{ℕ}
 use Rattle.shares.proofs.calls.best.Statement.{statement}
 use Rattle.shares.proofs.calls.best.Tie as tie
+
+-- the rows of the tasks are known
+abbrev start : tie.After-tasks-row → tie.Start
+start c = c .before .before .before
+
+abbrev ps : tie.After-tasks-row → List ℕ
+ps c = start c .args .periods .now
+
+abbrev es : tie.After-tasks-row → List ℕ
+es c = start c .args .costs .now
+
+abbrev P : tie.After-tasks-row → ℕ
+P c = start c .args .p-max
+
+-- no row refuses the tasks
+no-row : (c : tie.Else1) → tasksRow (ps (c .before)) (es (c .before)) ≡ 0
+no-row c = sym (c .before .tasks-row .ensures) ∙ c .if1 .left
+
+-- nor the period
+abbrev tested : tie.Else2 → tie.Else1
+tested c = c .before .before
+
+abbrev known : tie.Else2 → tie.After-tasks-row
+known c = tested c .before
+
+fits : (c : tie.Else2) → within (P (known c)) 2000 ≡ true
+fits c = sym (c .before .is-within .ensures) ∙ not-false _ (c .if2 .left)
+
+tasks : (c : tie.Else2) → Tasks (ps (known c)) (es (known c))
+tasks c = tasks-fit (ps (known c)) (es (known c)) (no-row (tested c))
+
+-- the demands are filled, then the leaps, then the search is done
+abbrev accepted : tie.After-fill → tie.Else2
+accepted c = c .before .before
+
+abbrev filled : tie.After-leaps → tie.After-fill
+filled c = c .before .before
+
+abbrev leapt : tie.After-leaps2 → tie.After-fill-leaps
+leapt c = c .before .before
+
+abbrev home : tie.After-leaps2 → tie.Else2
+home c = accepted (filled (leapt c .before))
 
 tasks-row-requires : tie.Need-tasks-row-requires
 tasks-row-requires c κs = search needs
@@ -20,11 +67,10 @@ refusal-requires : tie.Need-refusal-requires
 refusal-requires c κs = search needs
 
 returns : tie.Need-returns
+unfolding bestReply
 returns c =
-    let a = c .before .before .before .before .before .args in
-    let row = c .before .before .tasks-row .ensures in
-    refused (c .refusal .result) (c .before .before .tasks-row .result) (c .refusal .ensures) ∙ ap (λ (n : ℕ). refuses n 0) row
-    ∙ sym (best-rows (a .periods .now) (a .costs .now) (a .p-max) (λ z. c .before .if1 .taken (row ∙ z)))
+    let k = c .before .before in
+    refused-row (ps k) (es k) _ (k .tasks-row .result) (c .refusal .result) (k .tasks-row .ensures) (c .before .if1 .taken) (c .refusal .ensures)
 
 is-within-requires : tie.Need-is-within-requires
 is-within-requires c κs = search needs
@@ -33,61 +79,63 @@ refusal-requires-2 : tie.Need-refusal-requires-2
 refusal-requires-2 c κs = search needs
 
 returns-2 : tie.Need-returns-2
+unfolding bestReply
 returns-2 c =
-    let a = c .before .before .before .before .before .before .before .args in
-    let no = sym (c .before .before .is-within .ensures) ∙ not-true _ (c .before .if2 .taken) in
-    refused (c .refusal2 .result) 33 (c .refusal2 .ensures) ∙ sym (best-33 (a .periods .now) (a .costs .now) (sym (c .before .before .before .before .tasks-row .ensures) ∙ c .before .before .before .if1 .left) (a .p-max) no)
+    let w = c .before .before in
+    let k = w .before .before in
+    let no = sym (w .is-within .ensures) ∙ not-true _ (c .before .if2 .taken) in
+    refused-33 (ps k) (es k) (no-row (w .before)) _ (within (P k) 2000) (c .refusal2 .result) no (c .refusal2 .ensures)
 
 fill-requires : tie.Need-fill-requires
-fill-requires c κs =
-    let a = c .before .before .before .before .before .before .before .args in
-    (tasks-fit (a .periods .now) (a .costs .now) (sym (c .before .before .before .before .tasks-row .ensures) ∙ c .before .before .before .if1 .left), length-replicate {A = ℕ} 32016 0)
+fill-requires c κs = (tasks (c .before), length-replicate {A = ℕ} 32016 0)
 
 slice-aggregate-fill-leaps : tie.Need-slice-aggregate-fill-leaps
 slice-aggregate-fill-leaps c = sym (c .before .fill .ensures .size)
 
 fill-leaps-requires : tie.Need-fill-leaps-requires
-fill-leaps-requires c κs =
-    let a = c .before .before .before .before .before .before .before .before .before .before .args in
-    (tasks-fit (a .periods .now) (a .costs .now) (sym (c .before .before .before .before .before .before .before .tasks-row .ensures) ∙ c .before .before .before .before .before .before .if1 .left), (c .before .before .fill .ensures, length-replicate {A = ℕ} 32016 0))
+fill-leaps-requires c κs = (tasks (accepted (filled c)), (filled c .fill .ensures, length-replicate {A = ℕ} 32016 0))
 
 slice-aggregate-best-share : tie.Need-slice-aggregate-best-share
-slice-aggregate-best-share c = sym (c .before .before .before .before .fill .ensures .size)
+slice-aggregate-best-share c = sym (filled (c .before .before) .fill .ensures .size)
 
 slice-aggregate-best-share-2 : tie.Need-slice-aggregate-best-share-2
-slice-aggregate-best-share-2 c = sym (c .before .before .fill-leaps .ensures .size)
+slice-aggregate-best-share-2 c = sym (leapt c .fill-leaps .ensures .size)
 
 best-share-requires : tie.Need-best-share-requires
 best-share-requires c κs =
-    let a = c .before .before .before .before .before .before .before .before .before .before .before .before .before .args in
-    let yes = sym (c .before .before .before .before .before .before .before .before .is-within .ensures) ∙ not-false _ (c .before .before .before .before .before .before .before .if2 .left) in
-    let r = is-within (a .p-max) 2000 yes in
-    record {
-      tasks = tasks-fit (a .periods .now) (a .costs .now) (sym (c .before .before .before .before .before .before .before .before .before .before .tasks-row .ensures) ∙ c .before .before .before .before .before .before .before .before .before .if1 .left);
-      table = c .before .before .before .before .before .fill .ensures;
-      leaps-table = c .before .before .fill-leaps .ensures;
-      period-least = r .0;
-      period-most = r .1;
-    }
+    let k = known (home c) in
+    let table = filled (leapt c .before) .fill .ensures in
+    ready (ps k) (es k) _ _ (P k) (no-row (tested (home c))) (is-within (P k) 2000 (fits (home c))) table (leapt c .fill-leaps .ensures)
+
+-- what the search found is taken apart
+abbrev searched : tie.After-struct-known → tie.After-best-share
+searched c = c .before
+
+abbrev at : tie.After-struct-known → tie.Else2
+at c = home (searched c .before)
 
 refusal-requires-3 : tie.Need-refusal-requires-3
 refusal-requires-3 c κs = search needs
 
 returns-3 : tie.Need-returns-3
+unfolding bestReply
 returns-3 c =
-    let a = c .before .before .before .before .before .before .before .before .before .before .before .before .before .before .before .before .before .args in
-    let yes = sym (c .before .before .before .before .before .before .before .before .before .before .before .before .is-within .ensures) ∙ not-false _ (c .before .before .before .before .before .before .before .before .before .before .before .if2 .left) in
-    let e = c .before .before .before .best-share .ensures in
-    refused (c .refusal3 .result) 34 (c .refusal3 .ensures)
-    ∙ sym (best-34 (a .periods .now) (a .costs .now) (sym (c .before .before .before .before .before .before .before .before .before .before .before .before .before .before .tasks-row .ensures) ∙ c .before .before .before .before .before .before .before .before .before .before .before .before .before .if1 .left) (a .p-max) yes (ap (λ (s : Share). s .budget) (sym e) ∙ c .before .if3 .taken))
+    let s = c .before .before in
+    let k = known (at s) in
+    let e = searched s .best-share .ensures in
+    refused-34 (ps k) (es k) (no-row (tested (at s))) _ (within (P k) 2000) (bestOf (ps k) (es k) (P k) .budget) (c .refusal3 .result) (fits (at s))
+    (ap (λ (x : Share). x .budget) (sym e) ∙ c .before .if3 .taken) (c .refusal3 .ensures)
 
 returns-4 : tie.Need-returns-4
+unfolding bestReply
 returns-4 c =
-    let a = c .before .before .before .before .before .before .before .before .before .before .before .before .before .before .before .before .args in
-    let yes = sym (c .before .before .before .before .before .before .before .before .before .before .before .is-within .ensures) ∙ not-false _ (c .before .before .before .before .before .before .before .before .before .before .if2 .left) in
-    let e = c .before .before .best-share .ensures in
-    ap (λ (s : Share). gives (s .period ∷ s .budget ∷ [])) e
-    ∙ sym (best-gives (a .periods .now) (a .costs .now) (sym (c .before .before .before .before .before .before .before .before .before .before .before .before .before .tasks-row .ensures) ∙ c .before .before .before .before .before .before .before .before .before .before .before .before .if1 .left) (a .p-max) yes (λ z. c .if3 .left (ap (λ (s : Share). s .budget) e ∙ z)))
+    let h = at (c .before) in
+    let k = known h in
+    let best = bestOf (ps k) (es k) (P k) in
+    let e = searched (c .before) .best-share .ensures in
+    ap (λ (x : Share). gives (x .period ∷ x .budget ∷ [])) e
+    ∙ given (ps k) (es k) (no-row (tested h)) (best .period ∷ best .budget ∷ []) (within (P k) 2000) (best .budget) (fits h)
+    (λ z. c .if3 .left (ap (λ (x : Share). x .budget) e ∙ z))
 
 pub best-spec : {M : Type 1} → statement M
 best-spec =

@@ -1,19 +1,64 @@
--- `check` gives the complete reply of model's specs/Rows.antt: the search from the budget to itself. Assumes nothing.
+-- `check` gives the complete reply of model's specs/Rows.antt: the search from the budget to itself. Its places are named once, each from
+-- the next named one before it. Assumes nothing.
 use borrow.Author.Needs.{needs}
-use Rattle.model.specs.Reply.{refuses}
+use Rattle.model.specs.Rows.{inRange, tasksRow, checkReply}
 use Rattle.model.proofs.Replies.{in-range}
+use Rattle.shares.specs.Table.{Tasks}
 use Rattle.shares.proofs.Budgets.{one-fails, one-passes}
-use Rattle.shares.proofs.RowLaws.{tasks-fit}
+use Rattle.shares.proofs.RowLaws.{tasks-fit, ready}
 use Rattle.shares.proofs.LeapLaws.{leaps-zero, zeros}
-use lib.ListN.{replicate}
-use lib.ListN.{length-replicate}
-use Rattle.shares.proofs.ReplyLaws.{refused, check-rows, check-33, check-gives}
-use borrow.Author.Tests.{not-true, not-false}
+use Rattle.shares.proofs.ReplyLaws.{refused-row, refused-33, check-gives}
+use lib.ListN.{replicate, length-replicate}
+use mathlib.Core.List.{List}
 use mathlib.Core.Bool.{true, false}
-use mathlib.Core.Path.{sym, _∙_, ap}
-use Prim.Native.Nat.{ℕ, _-_}
+use borrow.Author.Tests.{not-true, not-false}
+use mathlib.Core.Path.{_≡_, sym, _∙_}
+use Prim.Native.Nat.{ℕ, _≤_}
 use Rattle.shares.proofs.calls.check.Statement.{statement}
 use Rattle.shares.proofs.calls.check.Tie as tie
+
+-- the rows of the tasks are known
+abbrev start : tie.After-tasks-row → tie.Start
+start c = c .before .before .before
+
+abbrev ps : tie.After-tasks-row → List ℕ
+ps c = start c .args .periods .now
+
+abbrev es : tie.After-tasks-row → List ℕ
+es c = start c .args .costs .now
+
+abbrev P : tie.After-tasks-row → ℕ
+P c = start c .args .p
+
+abbrev B : tie.After-tasks-row → ℕ
+B c = start c .args .b
+
+-- no row refuses the tasks
+no-row : (c : tie.Else1) → tasksRow (ps (c .before)) (es (c .before)) ≡ 0
+no-row c = sym (c .before .tasks-row .ensures) ∙ c .if1 .left
+
+-- nor the share
+abbrev tested : tie.Else2 → tie.Else1
+tested c = c .before .before
+
+abbrev known : tie.Else2 → tie.After-tasks-row
+known c = tested c .before
+
+fits : (c : tie.Else2) → inRange (P (known c)) (B (known c)) ≡ true
+fits c = sym (c .before .is-in-range .ensures) ∙ not-false _ (c .if2 .left)
+
+range : (c : tie.Else2) → ((1 ≤ P (known c)) × (P (known c) ≤ 2000)) × ((1 ≤ B (known c)) × (B (known c) ≤ P (known c)))
+range c = in-range (P (known c)) (B (known c)) (fits c)
+
+tasks : (c : tie.Else2) → Tasks (ps (known c)) (es (known c))
+tasks c = tasks-fit (ps (known c)) (es (known c)) (no-row (tested c))
+
+-- the demands are filled, then the leaps are zeros
+abbrev accepted : tie.After-fill → tie.Else2
+accepted c = c .before .before
+
+abbrev filled : tie.After-leaps → tie.After-fill
+filled c = c .before .before
 
 tasks-row-requires : tie.Need-tasks-row-requires
 tasks-row-requires c κs = search needs
@@ -22,11 +67,10 @@ refusal-requires : tie.Need-refusal-requires
 refusal-requires c κs = search needs
 
 returns : tie.Need-returns
+unfolding checkReply
 returns c =
-    let a = c .before .before .before .before .before .args in
-    let row = c .before .before .tasks-row .ensures in
-    refused (c .refusal .result) (c .before .before .tasks-row .result) (c .refusal .ensures) ∙ ap (λ (n : ℕ). refuses n 0) row
-    ∙ sym (check-rows (a .periods .now) (a .costs .now) (a .p) (a .b) (λ z. c .before .if1 .taken (row ∙ z)))
+    let k = c .before .before in
+    refused-row (ps k) (es k) _ (k .tasks-row .result) (c .refusal .result) (k .tasks-row .ensures) (c .before .if1 .taken) (c .refusal .ensures)
 
 is-in-range-requires : tie.Need-is-in-range-requires
 is-in-range-requires c κs = search needs
@@ -35,15 +79,15 @@ refusal-requires-2 : tie.Need-refusal-requires-2
 refusal-requires-2 c κs = search needs
 
 returns-2 : tie.Need-returns-2
+unfolding checkReply
 returns-2 c =
-    let a = c .before .before .before .before .before .before .before .args in
-    let no = sym (c .before .before .is-in-range .ensures) ∙ not-true _ (c .before .if2 .taken) in
-    refused (c .refusal2 .result) 33 (c .refusal2 .ensures) ∙ sym (check-33 (a .periods .now) (a .costs .now) (sym (c .before .before .before .before .tasks-row .ensures) ∙ c .before .before .before .if1 .left) (a .p) (a .b) no)
+    let w = c .before .before in
+    let k = w .before .before in
+    let no = sym (w .is-in-range .ensures) ∙ not-true _ (c .before .if2 .taken) in
+    refused-33 (ps k) (es k) (no-row (w .before)) _ (inRange (P k) (B k)) (c .refusal2 .result) no (c .refusal2 .ensures)
 
 fill-requires : tie.Need-fill-requires
-fill-requires c κs =
-    let a = c .before .before .before .before .before .before .before .args in
-    (tasks-fit (a .periods .now) (a .costs .now) (sym (c .before .before .before .before .tasks-row .ensures) ∙ c .before .before .before .if1 .left), length-replicate {A = ℕ} 32016 0)
+fill-requires c κs = (tasks (c .before), length-replicate {A = ℕ} 32016 0)
 
 slice-aggregate-first-budget : tie.Need-slice-aggregate-first-budget
 slice-aggregate-first-budget c = sym (c .before .fill .ensures .size)
@@ -53,36 +97,32 @@ slice-aggregate-first-budget-2 c = sym (length-replicate {A = ℕ} 32016 0)
 
 first-budget-requires : tie.Need-first-budget-requires
 first-budget-requires c κs =
-    let a = c .before .before .before .before .before .before .before .before .before .before .args in
-    let r = in-range (a .p) (a .b) (sym (c .before .before .before .before .before .is-in-range .ensures) ∙ not-false _ (c .before .before .before .before .if2 .left)) in (
-      record {
-        tasks = tasks-fit (a .periods .now) (a .costs .now) (sym (c .before .before .before .before .before .before .before .tasks-row .ensures) ∙ c .before .before .before .before .before .before .if1 .left);
-        table = c .before .before .fill .ensures;
-        leaps-table = leaps-zero (a .periods .now) (a .costs .now) (replicate {A = ℕ} 32016 0) _ (length-replicate {A = ℕ} 32016 0) (zeros 32016);
-        period-least = r .0 .0;
-        period-most = r .0 .1;
-      },
-      (r .1 .0, r .1 .1),
-    )
+    let h = accepted (filled c) in
+    let k = known h in
+    let none = leaps-zero (ps k) (es k) (replicate {A = ℕ} 32016 0) _ (length-replicate {A = ℕ} 32016 0) (zeros 32016) in
+    (ready (ps k) (es k) _ _ (P k) (no-row (tested h)) (range h .0) (filled c .fill .ensures) none, range h .1)
+
+-- the search is done
+abbrev at : tie.After-first-budget → tie.Else2
+at c = accepted (filled (c .before))
 
 returns-3 : tie.Need-returns-3
 returns-3 c =
-    let a = c .before .before .before .before .before .before .before .before .before .before .before .before .args in
-    let yes = sym (c .before .before .before .before .before .before .before .is-in-range .ensures) ∙ not-false _ (c .before .before .before .before .before .before .if2 .left) in
-    let r = in-range (a .p) (a .b) yes in
-    let fit = tasks-fit (a .periods .now) (a .costs .now) (sym (c .before .before .before .before .before .before .before .before .before .tasks-row .ensures) ∙ c .before .before .before .before .before .before .before .before .if1 .left) in
+    let s = c .before in
+    let h = at s in
+    let k = known h in
     sym
-    (check-gives (a .periods .now) (a .costs .now) (sym (c .before .before .before .before .before .before .before .before .before .tasks-row .ensures) ∙ c .before .before .before .before .before .before .before .before .if1 .left) (a .p) (a .b) false yes
-    (one-fails (a .p) (a .periods .now) (a .costs .now) fit (a .b) (r .1 .0) (sym (c .if3 .taken) ∙ c .before .first-budget .ensures)))
+    (check-gives (ps k) (es k) (no-row (tested h)) (P k) (B k) false (fits h)
+    (one-fails (P k) (ps k) (es k) (tasks h) (B k) (range h .1 .0) (sym (c .if3 .taken) ∙ s .first-budget .ensures)))
 
 returns-4 : tie.Need-returns-4
 returns-4 c =
-    let a = c .before .before .before .before .before .before .before .before .before .before .before .before .args in
-    let yes = sym (c .before .before .before .before .before .before .before .is-in-range .ensures) ∙ not-false _ (c .before .before .before .before .before .before .if2 .left) in
-    let fit = tasks-fit (a .periods .now) (a .costs .now) (sym (c .before .before .before .before .before .before .before .before .before .tasks-row .ensures) ∙ c .before .before .before .before .before .before .before .before .if1 .left) in
+    let s = c .before in
+    let h = at s in
+    let k = known h in
     sym
-    (check-gives (a .periods .now) (a .costs .now) (sym (c .before .before .before .before .before .before .before .before .before .tasks-row .ensures) ∙ c .before .before .before .before .before .before .before .before .if1 .left) (a .p) (a .b) true yes
-    (one-passes (a .p) (a .periods .now) (a .costs .now) fit (a .b) (c .before .first-budget .result) (c .if3 .left) (c .before .first-budget .ensures)))
+    (check-gives (ps k) (es k) (no-row (tested h)) (P k) (B k) true (fits h)
+    (one-passes (P k) (ps k) (es k) (tasks h) (B k) (s .first-budget .result) (c .if3 .left) (s .first-budget .ensures)))
 
 pub check-spec : {M : Type 1} → statement M
 check-spec =

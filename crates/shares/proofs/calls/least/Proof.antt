@@ -1,23 +1,65 @@
--- `least` gives the complete reply of model's specs/Rows.antt. Assumes nothing.
+-- `least` gives the complete reply of model's specs/Rows.antt. Its places are named once, each from the next named one before it.
+-- Assumes nothing.
 use borrow.Author.Needs.{needs}
-use Rattle.model.specs.Share.{passes, leastOf}
-use Rattle.model.specs.Search.{first}
-use Rattle.model.specs.Reply.{refuses, gives}
+use Rattle.model.specs.Share.{leastOf}
+use Rattle.model.specs.Reply.{gives}
+use Rattle.model.specs.Rows.{within, tasksRow, leastReply}
 use Rattle.model.proofs.Replies.{is-within}
-use Rattle.shares.proofs.RowLaws.{tasks-fit}
+use Rattle.shares.specs.Table.{Tasks}
+use Rattle.shares.proofs.RowLaws.{tasks-fit, ready}
+use Rattle.shares.proofs.ReplyLaws.{refused-row, refused-33, refused-34, given}
 use native.Mathlib.Nat.{le-refl}
 use lib.ListN.{length-replicate}
 use mathlib.Core.List.{List, [], _∷_}
-use Rattle.shares.proofs.ReplyLaws.{refused, least-rows, least-33, least-34, least-gives}
+use mathlib.Core.Bool.{true}
 use borrow.Author.Tests.{not-true, not-false}
 use mathlib.Core.Path.{_≡_, sym, _∙_, ap}
-use Prim.Native.Nat.{ℕ, _-_}
+use Prim.Native.Nat.{ℕ}
 use Rattle.shares.proofs.calls.least.Statement.{statement}
 use Rattle.shares.proofs.calls.least.Tie as tie
 
-found : (P : ℕ) (ps es : List ℕ) (r : ℕ) → r ≡ first (passes P ps es) P → leastOf P ps es ≡ r
-unfolding leastOf
-found P ps es r e = sym e
+-- the rows of the tasks are known
+abbrev start : tie.After-tasks-row → tie.Start
+start c = c .before .before .before
+
+abbrev ps : tie.After-tasks-row → List ℕ
+ps c = start c .args .periods .now
+
+abbrev es : tie.After-tasks-row → List ℕ
+es c = start c .args .costs .now
+
+abbrev P : tie.After-tasks-row → ℕ
+P c = start c .args .p
+
+-- no row refuses the tasks
+no-row : (c : tie.Else1) → tasksRow (ps (c .before)) (es (c .before)) ≡ 0
+no-row c = sym (c .before .tasks-row .ensures) ∙ c .if1 .left
+
+-- nor the period
+abbrev tested : tie.Else2 → tie.Else1
+tested c = c .before .before
+
+abbrev known : tie.Else2 → tie.After-tasks-row
+known c = tested c .before
+
+fits : (c : tie.Else2) → within (P (known c)) 2000 ≡ true
+fits c = sym (c .before .is-within .ensures) ∙ not-false _ (c .if2 .left)
+
+tasks : (c : tie.Else2) → Tasks (ps (known c)) (es (known c))
+tasks c = tasks-fit (ps (known c)) (es (known c)) (no-row (tested c))
+
+-- the demands are filled, then the leaps, then the search is done
+abbrev accepted : tie.After-fill → tie.Else2
+accepted c = c .before .before
+
+abbrev filled : tie.After-leaps → tie.After-fill
+filled c = c .before .before
+
+abbrev leapt : tie.After-leaps2 → tie.After-fill-leaps
+leapt c = c .before .before
+
+abbrev home : tie.After-leaps2 → tie.Else2
+home c = accepted (filled (leapt c .before))
 
 tasks-row-requires : tie.Need-tasks-row-requires
 tasks-row-requires c κs = search needs
@@ -26,11 +68,10 @@ refusal-requires : tie.Need-refusal-requires
 refusal-requires c κs = search needs
 
 returns : tie.Need-returns
+unfolding leastReply
 returns c =
-    let a = c .before .before .before .before .before .args in
-    let row = c .before .before .tasks-row .ensures in
-    refused (c .refusal .result) (c .before .before .tasks-row .result) (c .refusal .ensures) ∙ ap (λ (n : ℕ). refuses n 0) row
-    ∙ sym (least-rows (a .periods .now) (a .costs .now) (a .p) (λ z. c .before .if1 .taken (row ∙ z)))
+    let k = c .before .before in
+    refused-row (ps k) (es k) _ (k .tasks-row .result) (c .refusal .result) (k .tasks-row .ensures) (c .before .if1 .taken) (c .refusal .ensures)
 
 is-within-requires : tie.Need-is-within-requires
 is-within-requires c κs = search needs
@@ -39,61 +80,61 @@ refusal-requires-2 : tie.Need-refusal-requires-2
 refusal-requires-2 c κs = search needs
 
 returns-2 : tie.Need-returns-2
+unfolding leastReply
 returns-2 c =
-    let a = c .before .before .before .before .before .before .before .args in
-    let no = sym (c .before .before .is-within .ensures) ∙ not-true _ (c .before .if2 .taken) in
-    refused (c .refusal2 .result) 33 (c .refusal2 .ensures) ∙ sym (least-33 (a .periods .now) (a .costs .now) (sym (c .before .before .before .before .tasks-row .ensures) ∙ c .before .before .before .if1 .left) (a .p) no)
+    let w = c .before .before in
+    let k = w .before .before in
+    let no = sym (w .is-within .ensures) ∙ not-true _ (c .before .if2 .taken) in
+    refused-33 (ps k) (es k) (no-row (w .before)) _ (within (P k) 2000) (c .refusal2 .result) no (c .refusal2 .ensures)
 
 fill-requires : tie.Need-fill-requires
-fill-requires c κs =
-    let a = c .before .before .before .before .before .before .before .args in
-    (tasks-fit (a .periods .now) (a .costs .now) (sym (c .before .before .before .before .tasks-row .ensures) ∙ c .before .before .before .if1 .left), length-replicate {A = ℕ} 32016 0)
+fill-requires c κs = (tasks (c .before), length-replicate {A = ℕ} 32016 0)
 
 slice-aggregate-fill-leaps : tie.Need-slice-aggregate-fill-leaps
 slice-aggregate-fill-leaps c = sym (c .before .fill .ensures .size)
 
 fill-leaps-requires : tie.Need-fill-leaps-requires
-fill-leaps-requires c κs =
-    let a = c .before .before .before .before .before .before .before .before .before .before .args in
-    (tasks-fit (a .periods .now) (a .costs .now) (sym (c .before .before .before .before .before .before .before .tasks-row .ensures) ∙ c .before .before .before .before .before .before .if1 .left), (c .before .before .fill .ensures, length-replicate {A = ℕ} 32016 0))
+fill-leaps-requires c κs = (tasks (accepted (filled c)), (filled c .fill .ensures, length-replicate {A = ℕ} 32016 0))
 
 slice-aggregate-least-under : tie.Need-slice-aggregate-least-under
-slice-aggregate-least-under c = sym (c .before .before .before .before .fill .ensures .size)
+slice-aggregate-least-under c = sym (filled (c .before .before) .fill .ensures .size)
 
 slice-aggregate-least-under-2 : tie.Need-slice-aggregate-least-under-2
-slice-aggregate-least-under-2 c = sym (c .before .before .fill-leaps .ensures .size)
+slice-aggregate-least-under-2 c = sym (leapt c .fill-leaps .ensures .size)
 
 least-under-requires : tie.Need-least-under-requires
 least-under-requires c κs =
-    let a = c .before .before .before .before .before .before .before .before .before .before .before .before .before .args in
-    let yes = sym (c .before .before .before .before .before .before .before .before .is-within .ensures) ∙ not-false _ (c .before .before .before .before .before .before .before .if2 .left) in
-    let r = is-within (a .p) 2000 yes in (
-      record {
-        tasks = tasks-fit (a .periods .now) (a .costs .now) (sym (c .before .before .before .before .before .before .before .before .before .before .tasks-row .ensures) ∙ c .before .before .before .before .before .before .before .before .before .if1 .left);
-        table = c .before .before .before .before .before .fill .ensures;
-        leaps-table = c .before .before .fill-leaps .ensures;
-        period-least = r .0;
-        period-most = r .1;
-      },
-      le-refl (a .p),
+    let k = known (home c) in
+    let table = filled (leapt c .before) .fill .ensures in (
+      ready (ps k) (es k) _ _ (P k) (no-row (tested (home c))) (is-within (P k) 2000 (fits (home c))) table (leapt c .fill-leaps .ensures),
+      le-refl (P k),
     )
+
+found : (c : tie.After-least-under) → leastOf (P (known (home (c .before)))) (ps (known (home (c .before)))) (es (known (home (c .before))))
+    ≡ c .least-under .result
+unfolding leastOf
+found c = sym (c .least-under .ensures)
 
 refusal-requires-3 : tie.Need-refusal-requires-3
 refusal-requires-3 c κs = search needs
 
 returns-3 : tie.Need-returns-3
+unfolding leastReply
 returns-3 c =
-    let a = c .before .before .before .before .before .before .before .before .before .before .before .before .before .before .before .before .args in
-    let yes = sym (c .before .before .before .before .before .before .before .before .before .before .before .is-within .ensures) ∙ not-false _ (c .before .before .before .before .before .before .before .before .before .before .if2 .left) in
-    refused (c .refusal3 .result) 34 (c .refusal3 .ensures)
-    ∙ sym (least-34 (a .periods .now) (a .costs .now) (sym (c .before .before .before .before .before .before .before .before .before .before .before .before .before .tasks-row .ensures) ∙ c .before .before .before .before .before .before .before .before .before .before .before .before .if1 .left) (a .p) yes (found (a .p) (a .periods .now) (a .costs .now) _ (c .before .before .least-under .ensures) ∙ c .before .if3 .taken))
+    let s = c .before .before in
+    let h = home (s .before) in
+    let k = known h in
+    refused-34 (ps k) (es k) (no-row (tested h)) _ (within (P k) 2000) (leastOf (P k) (ps k) (es k)) (c .refusal3 .result) (fits h)
+    (found s ∙ c .before .if3 .taken) (c .refusal3 .ensures)
 
 returns-4 : tie.Need-returns-4
+unfolding leastReply
 returns-4 c =
-    let a = c .before .before .before .before .before .before .before .before .before .before .before .before .before .before .before .args in
-    let yes = sym (c .before .before .before .before .before .before .before .before .before .before .is-within .ensures) ∙ not-false _ (c .before .before .before .before .before .before .before .before .before .if2 .left) in
-    let e = found (a .p) (a .periods .now) (a .costs .now) _ (c .before .least-under .ensures) in
-    ap (λ (n : ℕ). gives (n ∷ [])) (sym e) ∙ sym (least-gives (a .periods .now) (a .costs .now) (sym (c .before .before .before .before .before .before .before .before .before .before .before .before .tasks-row .ensures) ∙ c .before .before .before .before .before .before .before .before .before .before .before .if1 .left) (a .p) yes (λ z. c .if3 .left (sym e ∙ z)))
+    let h = home (c .before .before) in
+    let k = known h in
+    let least = leastOf (P k) (ps k) (es k) in
+    ap (λ (n : ℕ). gives (n ∷ [])) (sym (found (c .before)))
+    ∙ given (ps k) (es k) (no-row (tested h)) (least ∷ []) (within (P k) 2000) least (fits h) (λ z. c .if3 .left (sym (found (c .before)) ∙ z))
 
 pub least-spec : {M : Type 1} → statement M
 least-spec =

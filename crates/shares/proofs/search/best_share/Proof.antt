@@ -12,10 +12,24 @@ use Rattle.shares.proofs.search.best_share.Statement.{statement}
 use Rattle.shares.proofs.search.best_share.Tie as tie
 
 abbrev Inv-loop : tie.InvT-loop
-Inv-loop periods costs demands leaps p-max best₀ p₀ p-end best p = (1 ≤ p) × (p ≤ p-max + 1) × (paperShare best ≡ bestOf periods costs (p - 1))
+Inv-loop periods costs demands leaps p-max best₀ p₀ p-end best p =
+    (1 ≤ p) × (p ≤ p-max + 1) × (paperShare best ≡ bestOf periods costs (p - 1))
 
 abbrev μ-loop : tie.MeasureT-loop
 μ-loop periods costs demands leaps p-max best₀ p₀ p-end best p = (p-max + 1) - p
+
+-- the head of the loop, where the cap is known, and where the budget is
+abbrev Head : Type 0
+Head = tie.At-loop Inv-loop μ-loop
+
+abbrev start : Head → tie.Start Inv-loop μ-loop
+start c = c .before .before .before .before .before
+
+abbrev head : tie.After-cap-of Inv-loop μ-loop → Head
+head c = c .before .before
+
+abbrev capped : tie.After-replaced Inv-loop μ-loop → tie.After-cap-of Inv-loop μ-loop
+capped c = c .before .before
 
 add-p-end : tie.Need-add-p-end Inv-loop μ-loop
 add-p-end c = record { fits = omega (arith, c .before .before .before .before .pre .period-most) }
@@ -28,18 +42,24 @@ loop-holds c = (omega arith, omega arith, refl)
 offered : (c : tie.In-loop Inv-loop μ-loop) → Offered (paperShare (c .before .loop .best))
 offered c =
     let l = c .before .loop in
-    let s = c .before .before .before .before .before .before in
+    let s = start (c .before) in
     subst (λ (s : Share). Offered s) (sym (l .inv .2))
     (best-offered (s .args .periods .now) (s .args .costs .now) (l .p - 1) (omega (arith, l .inv .1, s .pre .period-most)))
 
 cap-of-requires : tie.Need-cap-of-requires Inv-loop μ-loop
-cap-of-requires c κs = (offered c, omega (arith, c .before .before .before .before .before .before .pre .period-most))
+cap-of-requires c κs = (offered c, omega (arith, start (c .before) .pre .period-most))
 
 least-under-requires : tie.Need-least-under-requires Inv-loop μ-loop
 least-under-requires c κs =
-    let l = c .before .before .loop in
-    let r = c .before .before .before .before .before .before .before .pre in (
-      record { tasks = r .tasks; table = r .table; leaps-table = r .leaps-table; period-least = l .inv .0; period-most = omega (arith, r .period-most) },
+    let l = head c .loop in
+    let r = start (head c) .pre in (
+      record {
+        tasks = r .tasks;
+        table = r .table;
+        leaps-table = r .leaps-table;
+        period-least = l .inv .0;
+        period-most = omega (arith, r .period-most);
+      },
       subst (λ (n : ℕ). n ≤ l .p) (sym (c .cap-of .ensures)) (cap-most (paperShare (l .best)) (l .p) (offered (c .before))),
     )
 
@@ -47,25 +67,28 @@ replaced-requires : tie.Need-replaced-requires Inv-loop μ-loop
 replaced-requires c κs = search needs
 
 add-p : tie.Need-add-p Inv-loop μ-loop
-add-p c = record { fits = omega (arith, c .before .before .before .before .before .before .before .before .before .pre .period-most) }
+add-p c = record { fits = omega (arith, start (head (capped c)) .pre .period-most) }
 
 loop-less : tie.Need-loop-less Inv-loop μ-loop
 loop-less c = search needs
 
 loop-again : tie.Need-loop-again Inv-loop μ-loop
 loop-again c =
-    let l = c .before .before .before .before .loop in
-    let a = c .before .before .before .before .before .before .before .before .before .args in
-    let found = c .before .least-under .ensures ∙ ap (first (passes (l .p) (a .periods .now) (a .costs .now))) (c .before .before .cap-of .ensures) in (
+    let k = capped c in
+    let l = head k .loop in
+    let a = start (head k) .args in
+    let best = paperShare (l .best) in
+    let found = c .before .least-under .ensures ∙ ap (first (passes (l .p) (a .periods .now) (a .costs .now))) (k .cap-of .ensures) in (
       omega arith,
       omega arith,
-      c .replaced .ensures ∙ ap (replacedBy (paperShare (l .best)) (l .p)) found ∙ best-next (a .periods .now) (a .costs .now) (paperShare (l .best)) (l .p) (l .inv .0) (offered (c .before .before .before)) (l .inv .2),
+      c .replaced .ensures ∙ ap (replacedBy best (l .p)) found
+          ∙ best-next (a .periods .now) (a .costs .now) best (l .p) (l .inv .0) (offered (k .before)) (l .inv .2),
     )
 
 returns : tie.Need-returns Inv-loop μ-loop
 returns c =
     let l = c .before .loop in
-    let a = c .before .before .before .before .before .before .args in
+    let a = start (c .before) .args in
     let all : l .p - 1 ≡ a .p-max = omega (arith, l .inv .1) in
     l .inv .2 ∙ ap (bestOf (a .periods .now) (a .costs .now)) all
 

@@ -1,4 +1,5 @@
--- `failing_below` gives a budget below `cap` that fails with all below it, or 0. The invariant keeps the budget above 0 and at most `cap`. Assumes nothing.
+-- `failing_below` gives a budget below `cap` that fails with all below it, or 0. The invariant keeps the budget above 0 and at most `cap`.
+-- Assumes nothing.
 use borrow.Author.Needs.{needs}
 use Rattle.shares.proofs.Budgets.{fails-below, one-fails}
 use native.Mathlib.Omega.{arith}
@@ -13,6 +14,16 @@ Inv-loop periods costs demands leaps p cap b₀ step₀ b step = (1 ≤ b) × (b
 abbrev μ-loop : tie.MeasureT-loop
 μ-loop periods costs demands leaps p cap b₀ step₀ b step = b
 
+-- the head of the loop, and a budget tried in it
+abbrev Head : Type 0
+Head = tie.At-loop Inv-loop μ-loop
+
+abbrev start : Head → tie.Start Inv-loop μ-loop
+start c = c .before .before .before .before .before
+
+abbrev head : tie.After-first-budget Inv-loop μ-loop → Head
+head c = c .before .before
+
 loop-holds : tie.Need-loop-holds Inv-loop μ-loop
 loop-holds c = (omega (arith, c .before .before .before .before .pre .1), omega arith, omega arith)
 
@@ -20,28 +31,36 @@ sub-b : tie.Need-sub-b Inv-loop μ-loop
 sub-b c = search needs
 
 first-budget-requires : tie.Need-first-budget-requires Inv-loop μ-loop
-first-budget-requires c κs = (c .before .before .before .before .before .before .pre .0, (omega arith, omega (arith, c .before .before .before .before .before .before .pre .1, c .before .loop .inv)))
+first-budget-requires c κs =
+    let s = start (c .before) in
+    (s .pre .0, (omega arith, omega (arith, s .pre .1, c .before .loop .inv)))
 
 returns : tie.Need-returns Inv-loop μ-loop
 returns c =
-    let a = c .before .before .before .before .before .before .before .before .args in
-    let l = c .before .before .before .loop in (
+    let f = c .before in
+    let l = head f .loop in
+    let s = start (head f) in
+    let a = s .args in
+    let tasks = s .pre .0 .tasks in
+    let b = l .b - l .step in (
       omega (arith, l .inv),
-      fails-below (a .p) (a .periods .now) (a .costs .now) (c .before .before .before .before .before .before .before .before .pre .0 .tasks) (l .b - l .step) (omega (arith, l .inv, c .before .before .before .before .before .before .before .before .pre .1))
-          (one-fails (a .p) (a .periods .now) (a .costs .now) (c .before .before .before .before .before .before .before .before .pre .0 .tasks) (l .b - l .step) (omega arith) (sym (c .if1 .taken) ∙ c .before .first-budget .ensures)),
+      fails-below (a .p) (a .periods .now) (a .costs .now) tasks b (omega (arith, l .inv, s .pre .1))
+          (one-fails (a .p) (a .periods .now) (a .costs .now) tasks b (omega arith) (sym (c .if1 .taken) ∙ f .first-budget .ensures)),
     )
 
 mul-step : tie.Need-mul-step Inv-loop μ-loop
-mul-step c = record { fits = omega (arith, c .before .before .before .loop .inv, c .before .before .before .before .before .before .before .before .pre .1, c .before .before .before .before .before .before .before .before .pre .0 .period-most) }
+mul-step c =
+    let h = head (c .before) in
+    record { fits = omega (arith, h .loop .inv, start h .pre .1, start h .pre .0 .period-most) }
 
 loop-less : tie.Need-loop-less Inv-loop μ-loop
-loop-less c = omega (arith, c .before .before .before .loop .inv)
+loop-less c = omega (arith, head (c .before) .loop .inv)
 
 loop-again : tie.Need-loop-again Inv-loop μ-loop
-loop-again c = (omega arith, omega (arith, c .before .before .before .loop .inv), omega (arith, c .before .before .before .loop .inv))
+loop-again c = let l = head (c .before) .loop in (omega arith, omega (arith, l .inv), omega (arith, l .inv))
 
 returns-2 : tie.Need-returns-2 Inv-loop μ-loop
-returns-2 c = (omega (arith, c .before .before .before .before .before .before .pre .1), λ x p l. absurd (omega arith))
+returns-2 c = (omega (arith, start (c .before) .pre .1), λ x p l. absurd (omega arith))
 
 pub failing-below-spec : {M : Type 1} → statement M
 failing-below-spec =

@@ -1,5 +1,5 @@
--- `first_budget` finds the first budget that passes. The invariant of all three loops is the walk of proofs/Walk.antt; the inner ones add that
--- the budget, and within the lengths the task, is the one that the loop began with. Assumes nothing.
+-- `first_budget` finds the first budget that passes. The invariant of all three loops is the walk of proofs/Walk.antt; the inner ones add
+-- that the budget, and within the lengths the task, is the one that the loop began with. Assumes nothing.
 use borrow.Author.Needs.{needs}
 use Rattle.model.specs.Demand.{demandOf}
 use Rattle.shares.specs.Table.{Ready, longest, leapOf}
@@ -17,7 +17,8 @@ use Rattle.shares.proofs.search.first_budget.Statement.{statement}
 use Rattle.shares.proofs.search.first_budget.Tie as tie
 
 abbrev Inv-lengths : tie.InvT-lengths
-Inv-lengths periods costs demands leaps p from to n b₀ i₀ t₀ b i t = Walk periods costs p from b i t × ((b ≤ to) × ((i < length periods) × ((b ≡ b₀) × (i ≡ i₀))))
+Inv-lengths periods costs demands leaps p from to n b₀ i₀ t₀ b i t =
+    Walk periods costs p from b i t × ((b ≤ to) × ((i < length periods) × ((b ≡ b₀) × (i ≡ i₀))))
 
 abbrev μ-lengths : tie.MeasureT-lengths
 μ-lengths periods costs demands leaps p from to n b₀ i₀ t₀ b i t = getD periods i 0 - t
@@ -34,12 +35,58 @@ Inv-budgets periods costs demands leaps p from to n b₀ i₀ t₀ b i t = Walk 
 abbrev μ-budgets : tie.MeasureT-budgets
 μ-budgets periods costs demands leaps p from to n b₀ i₀ t₀ b i t = (to + 1) - b
 
--- what is known where a length is looked at
+-- the heads of the loops: budgets, tasks, lengths
+abbrev Budgets : Type 0
+Budgets = tie.At-budgets Inv-lengths μ-lengths Inv-tasks μ-tasks Inv-budgets μ-budgets
+
+abbrev Tasks : Type 0
+Tasks = tie.At-tasks Inv-lengths μ-lengths Inv-tasks μ-tasks Inv-budgets μ-budgets
+
 abbrev At : Type 0
 At = tie.At-lengths Inv-lengths μ-lengths Inv-tasks μ-tasks Inv-budgets μ-budgets
 
+abbrev began : Budgets → tie.Start Inv-lengths μ-lengths Inv-tasks μ-tasks Inv-budgets μ-budgets
+began w = w .before .before .before .before .before
+
+abbrev of-tasks : Tasks → Budgets
+of-tasks w = w .before .before
+
+abbrev of-lengths : At → Tasks
+of-lengths l = l .before .before
+
 abbrev start : At → tie.Start Inv-lengths μ-lengths Inv-tasks μ-tasks Inv-budgets μ-budgets
-start l = l .before .before .before .before .before .before .before .before .before
+start l = began (of-tasks (of-lengths l))
+
+-- within the lengths: the demand is read, what it waits is known, it is too much, and where to leap is known
+abbrev Read : Type 0
+Read = tie.After-wide Inv-lengths μ-lengths Inv-tasks μ-tasks Inv-budgets μ-budgets
+
+abbrev Waited : Type 0
+Waited = tie.After-waited Inv-lengths μ-lengths Inv-tasks μ-tasks Inv-budgets μ-budgets
+
+abbrev Leap : Type 0
+Leap = tie.After-leap Inv-lengths μ-lengths Inv-tasks μ-tasks Inv-budgets μ-budgets
+
+abbrev Seen : Type 0
+Seen = tie.After-shared-slice-known6 Inv-lengths μ-lengths Inv-tasks μ-tasks Inv-budgets μ-budgets
+
+abbrev of-read : Read → At
+of-read c = c .before .before
+
+abbrev read : Waited → Read
+read c = c .before
+
+abbrev at : Waited → At
+at c = of-read (read c)
+
+abbrev waited : Leap → Waited
+waited c = c .before .before
+
+abbrev leapt : Seen → Leap
+leapt c = c .before
+
+abbrev here : Seen → At
+here c = at (waited (leapt c))
 
 abbrev ps : At → List ℕ
 ps l = start l .args .periods .now
@@ -109,11 +156,19 @@ waits-is l d s e f = f ∙ ap (waitedOf (start l .args .p) (l .lengths .b)) (e �
 next-is : (l : At) (d s u : ℕ) → d ≡ getD (start l .args .demands .now) (l .lengths .t * 16 + l .lengths .i) 0
     → s ≡ waitedOf (start l .args .p) (l .lengths .b) d → u ≡ leapOf (leaps l) (l .lengths .i) d s → u ≡ next l
 next-is l d s u e f g =
-    g ∙ ap (λ (d : ℕ). leapOf (leaps l) (l .lengths .i) d s) (e ∙ cell l) ∙ ap (leapOf (leaps l) (l .lengths .i) (demanded l)) (waits-is l d s e f)
+    g ∙ ap (λ (d : ℕ). leapOf (leaps l) (l .lengths .i) d s) (e ∙ cell l)
+    ∙ ap (leapOf (leaps l) (l .lengths .i) (demanded l)) (waits-is l d s e f)
+
+-- of what the code has in hand where the next length is known
+next-here : (c : Seen) → leapt c .leap .result ≡ next (here c)
+next-here c =
+    let w = waited (leapt c) in
+    next-is (here c) (read w .wide .result) (w .waited .result) (leapt c .leap .result) (read w .wide .ensures) (w .waited .ensures .0)
+    (leapt c .leap .ensures)
 
 budgets-holds :
     tie.Need-budgets-holds Inv-lengths μ-lengths Inv-tasks μ-tasks Inv-budgets μ-budgets
-budgets-holds c = walk-start _ _ (c .before .before .before .before .pre .0 .tasks) _ _ (c .before .before .before .before .pre .1 .0)
+budgets-holds c = let s = c .before .before .before .before in walk-start _ _ (s .pre .0 .tasks) _ _ (s .pre .1 .0)
 
 tasks-holds : tie.Need-tasks-holds Inv-lengths μ-lengths Inv-tasks μ-tasks Inv-budgets μ-budgets
 tasks-holds c = (c .before .budgets .inv, (c .if1 .left, refl))
@@ -145,7 +200,7 @@ wide-requires c κs = search needs
 waited-requires :
     tie.Need-waited-requires Inv-lengths μ-lengths Inv-tasks μ-tasks Inv-budgets μ-budgets
 waited-requires c κs =
-    let l = c .before .before in (
+    let l = of-read c in (
       omega (arith, l .lengths .inv .0 .begun, start l .pre .1 .0),
       most l,
       ready l .period-most,
@@ -154,88 +209,103 @@ waited-requires c κs =
     )
 
 add-if2 : tie.Need-add-if2 Inv-lengths μ-lengths Inv-tasks μ-tasks Inv-budgets μ-budgets
-add-if2 c = record { fits = omega (arith, c .waited .ensures .1, c .before .wide .ensures, cell (c .before .before .before), few-ticks (c .before .before .before)) }
+add-if2 c = record { fits = omega (arith, c .waited .ensures .1, read c .wide .ensures, cell (at c), few-ticks (at c)) }
 
 add-i : tie.Need-add-i Inv-lengths μ-lengths Inv-tasks μ-tasks Inv-budgets μ-budgets
-add-i c = record { fits = omega (arith, column (c .before .before .before .before)) }
+add-i c = record { fits = omega (arith, column (at (c .before))) }
 
 tasks-less : tie.Need-tasks-less Inv-lengths μ-lengths Inv-tasks μ-tasks Inv-budgets μ-budgets
-tasks-less c = omega (arith, c .before .before .before .before .lengths .inv .1 .1)
+tasks-less c = omega (arith, at (c .before) .lengths .inv .1 .1)
 
 tasks-again : tie.Need-tasks-again Inv-lengths μ-lengths Inv-tasks μ-tasks Inv-budgets μ-budgets
 tasks-again c =
-    let l = c .before .before .before .before in
-    let d = c .before .before .wide .ensures ∙ cell l in
-    let s = waits-is l (c .before .before .wide .result) (c .before .waited .result) (c .before .before .wide .ensures) (c .before .waited .ensures .0) in (
-      walk-met (ps l) (es l) (ready l .tasks) (start l .args .p) (start l .args .from) (start l .pre .1 .0) (l .lengths .b) (l .lengths .i) (l .lengths .t) (most l) (some-task l) (l .lengths .inv .0) (subst (λ (n : ℕ). demanded l + n ≤ l .lengths .t) s (subst (λ (n : ℕ). n + c .before .waited .result ≤ l .lengths .t) d (c .if2 .taken))),
-      (l .lengths .inv .1 .0, l .lengths .inv .1 .1 .1 .0 ∙ c .before .before .before .before .before .before .tasks .inv .1 .1),
+    let w = c .before in
+    let l = at w in
+    let s = start l in
+    let d = read w .wide .ensures ∙ cell l in
+    let e = waits-is l (read w .wide .result) (w .waited .result) (read w .wide .ensures) (w .waited .ensures .0) in
+    let enough : demanded l + waits l ≤ l .lengths .t =
+    subst (λ (n : ℕ). demanded l + n ≤ l .lengths .t) e
+    (subst (λ (n : ℕ). n + w .waited .result ≤ l .lengths .t) d (c .if2 .taken)) in (
+      walk-met (ps l) (es l) (ready l .tasks) (s .args .p) (s .args .from) (s .pre .1 .0) (l .lengths .b) (l .lengths .i) (l .lengths .t)
+          (most l) (some-task l) (l .lengths .inv .0) enough,
+      (l .lengths .inv .1 .0, l .lengths .inv .1 .1 .1 .0 ∙ of-lengths l .tasks .inv .1 .1),
     )
 
 leap-requires :
     tie.Need-leap-requires Inv-lengths μ-lengths Inv-tasks μ-tasks Inv-budgets μ-budgets
 leap-requires c κs =
-    let l = c .before .before .before .before in
-    (ready l .leaps-table .size, column l, omega (arith, c .before .before .wide .ensures, cell l, few-ticks l), c .before .waited .ensures .1)
+    let w = c .before in
+    let l = at w in
+    (ready l .leaps-table .size, column l, omega (arith, read w .wide .ensures, cell l, few-ticks l), w .waited .ensures .1)
 
 mul-if3 : tie.Need-mul-if3 Inv-lengths μ-lengths Inv-tasks μ-tasks Inv-budgets μ-budgets
-mul-if3 c = record { fits = omega (arith, column (c .before .before .before .before .before)) }
+mul-if3 c = record { fits = omega (arith, column (at (waited c))) }
 
 shared-slice-read-if3 :
     tie.Need-shared-slice-read-if3 Inv-lengths μ-lengths Inv-tasks μ-tasks Inv-budgets μ-budgets
-shared-slice-read-if3 c = some-task (c .before .before .before .before .before .before)
+shared-slice-read-if3 c = some-task (here c)
 
 add-b : tie.Need-add-b Inv-lengths μ-lengths Inv-tasks μ-tasks Inv-budgets μ-budgets
-add-b c = record { fits = omega (arith, most (c .before .before .before .before .before .before .before), ready (c .before .before .before .before .before .before .before) .period-most) }
+add-b c = let l = here (c .before) in record { fits = omega (arith, most l, ready l .period-most) }
 
 budgets-less : tie.Need-budgets-less Inv-lengths μ-lengths Inv-tasks μ-tasks Inv-budgets μ-budgets
-budgets-less c = omega (arith, c .before .before .before .before .before .before .before .lengths .inv .1, c .before .before .before .before .before .before .before .before .before .tasks .inv .1)
+budgets-less c = let l = here (c .before) in omega (arith, l .lengths .inv .1, of-lengths l .tasks .inv .1)
 
 budgets-again :
     tie.Need-budgets-again Inv-lengths μ-lengths Inv-tasks μ-tasks Inv-budgets μ-budgets
 budgets-again c =
-    let l = c .before .before .before .before .before .before .before in
-    let e = next-is l (c .before .before .before .before .before .wide .result) (c .before .before .before .before .waited .result) (c .before .before .leap .result) (c .before .before .before .before .before .wide .ensures) (c .before .before .before .before .waited .ensures .0) (c .before .before .leap .ensures) in
-    walk-fails (ps l) (es l) (ready l .tasks) (start l .args .p) (start l .args .from) (start l .pre .1 .0) (l .lengths .b) (l .lengths .i) (l .lengths .t) (most l) (some-task l) (l .lengths .inv .0) (next l) (skipped l) (subst (λ (u : ℕ). getD (ps l) (l .lengths .i) 0 < u) e (c .if3 .taken))
+    let l = here (c .before) in
+    let s = start l in
+    walk-fails (ps l) (es l) (ready l .tasks) (s .args .p) (s .args .from) (s .pre .1 .0) (l .lengths .b) (l .lengths .i) (l .lengths .t)
+    (most l) (some-task l) (l .lengths .inv .0) (next l) (skipped l)
+    (subst (λ (u : ℕ). getD (ps l) (l .lengths .i) 0 < u) (next-here (c .before)) (c .if3 .taken))
 
 -- the next length is longer: what it leaps to is at least the demand and what it waits, or above all
-onward : (c : tie.Else3 Inv-lengths μ-lengths Inv-tasks μ-tasks Inv-budgets μ-budgets)
-    → c .before .before .before .before .before .before .before .lengths .t < c .before .before .leap .result
+onward : (c : Seen) → here c .lengths .t < leapt c .leap .result
 onward c =
-    let l = c .before .before .before .before .before .before .before in
+    let l = here c in
+    let w = waited (leapt c) in
     omega (
       arith,
-      c .before .before .leap .ensures,
-      leap-least (leaps l) (l .lengths .i) (c .before .before .before .before .before .wide .result) (c .before .before .before .before .waited .result),
-      c .before .before .before .if2 .left,
+      leapt c .leap .ensures,
+      leap-least (leaps l) (l .lengths .i) (read w .wide .result) (w .waited .result),
+      leapt c .before .if2 .left,
       within l,
       longest-most (ps l) (es l) (ready l .tasks),
     )
 
 lengths-less : tie.Need-lengths-less Inv-lengths μ-lengths Inv-tasks μ-tasks Inv-budgets μ-budgets
-lengths-less c = omega (arith, c .if3 .left, onward c)
+lengths-less c = omega (arith, c .if3 .left, onward (c .before))
 
 lengths-again :
     tie.Need-lengths-again Inv-lengths μ-lengths Inv-tasks μ-tasks Inv-budgets μ-budgets
 lengths-again c =
-    let l = c .before .before .before .before .before .before .before in
-    let e = next-is l (c .before .before .before .before .before .wide .result) (c .before .before .before .before .waited .result) (c .before .before .leap .result) (c .before .before .before .before .before .wide .ensures) (c .before .before .before .before .waited .ensures .0) (c .before .before .leap .ensures) in (
-      subst (λ (u : ℕ). Walk (ps l) (es l) (start l .args .p) (start l .args .from) (l .lengths .b) (l .lengths .i) u) (sym e)
-          (walk-jump (ps l) (es l) (ready l .tasks) (start l .args .p) (start l .args .from) (start l .pre .1 .0) (l .lengths .b) (l .lengths .i) (l .lengths .t) (most l) (some-task l) (l .lengths .inv .0) (next l) (skipped l) (subst (λ (u : ℕ). u ≤ getD (ps l) (l .lengths .i) 0) e (c .if3 .left))
-          (subst (λ (u : ℕ). l .lengths .t ≤ u) e (omega (arith, onward c)))),
+    let l = here (c .before) in
+    let s = start l in
+    let e = next-here (c .before) in (
+      subst (λ (u : ℕ). Walk (ps l) (es l) (s .args .p) (s .args .from) (l .lengths .b) (l .lengths .i) u) (sym e)
+          (walk-jump (ps l) (es l) (ready l .tasks) (s .args .p) (s .args .from) (s .pre .1 .0) (l .lengths .b) (l .lengths .i) (l .lengths .t)
+          (most l) (some-task l) (l .lengths .inv .0) (next l) (skipped l) (subst (λ (u : ℕ). u ≤ getD (ps l) (l .lengths .i) 0) e (c .if3 .left))
+          (subst (λ (u : ℕ). l .lengths .t ≤ u) e (omega (arith, onward (c .before))))),
       l .lengths .inv .1,
     )
 
 returns : tie.Need-returns Inv-lengths μ-lengths Inv-tasks μ-tasks Inv-budgets μ-budgets
 returns c =
-    let a = c .before .before .before .before .before .before .args in
+    let s = began (c .before) in
+    let a = s .args in
     let w = c .before .budgets in
-    walk-none (a .periods .now) (a .costs .now) (c .before .before .before .before .before .before .pre .0 .tasks) (a .p) (a .from) (c .before .before .before .before .before .before .pre .1 .0) (a .to) (w .b) (w .i) (w .t) (w .inv) (c .if1 .taken)
+    walk-none (a .periods .now) (a .costs .now) (s .pre .0 .tasks) (a .p) (a .from) (s .pre .1 .0) (a .to) (w .b) (w .i) (w .t) (w .inv)
+    (c .if1 .taken)
 
 returns-2 : tie.Need-returns-2 Inv-lengths μ-lengths Inv-tasks μ-tasks Inv-budgets μ-budgets
 returns-2 c =
-    let a = c .before .before .before .before .before .before .before .before .args in
+    let s = began (of-tasks (c .before)) in
+    let a = s .args in
     let w = c .before .tasks in
-    walk-found (a .periods .now) (a .costs .now) (c .before .before .before .before .before .before .before .before .pre .0 .tasks) (a .p) (a .from) (c .before .before .before .before .before .before .before .before .pre .1 .0) (a .to) (w .b) (w .i) (w .t) (w .inv .0) (w .inv .1 .0) (c .before .before .before .before .before .before .before .before .pre .1 .1) (c .tasks-test .left)
+    walk-found (a .periods .now) (a .costs .now) (s .pre .0 .tasks) (a .p) (a .from) (s .pre .1 .0) (a .to) (w .b) (w .i) (w .t) (w .inv .0)
+    (w .inv .1 .0) (s .pre .1 .1) (c .tasks-test .left)
 
 pub first-budget-spec : {M : Type 1} → statement M
 first-budget-spec =
