@@ -52,23 +52,29 @@ same-length c = search needs
 returns : tie.Need-returns
 unfolding head
 returns c =
-    let s : List ℕ = c .before .before .before .before .before .before .before .before .before .before .before .before .before .before .before .before .before .before .before .before .before .before .before .before .before .before .before .before .args .out .now in
-    let d : Description = c .before .before .before .before .before .before .before .before .before .before .before .before .before .before .before .before .before .before .before .before .before .before .before .before .before .before .before .before .args .d in
-    let x₁ : List ℕ = head 1 20 (c .before .before .before .before .before .before .before .before .before .before .before .before .before .before .before .before .before .before .before .before .before .before .before .before .before .before .before .before .args .time .0) in
+    let priority = c .before .before in
+    let capacity = priority .before .before .before .before .before in
+    let period = capacity .before .before .before .before .before in
+    let id = period .before .before .before .before .before in
+    let front = id .before .before .before .before .before in
+    let a = front .before .before .before .before .before .before .args in
+    let s : List ℕ = a .out .now in
+    let d : Description = a .d in
+    let x₁ : List ℕ = head 1 20 (a .time .0) in
     let x₂ : List ℕ = x₁ ++ bytesOf 3 (d .tunnel .0) in
     let x₃ : List ℕ = x₂ ++ bytesOf 4 (d .period .0) in
     let x₄ : List ℕ = x₃ ++ bytesOf 4 (d .capacity .0) in
-    let o₂ : c .before .before .before .before .before .before .before .before .before .before .before .before .before .before .before .before .before .put .last .0 ≡ laid s 0 x₂ =
-    laid-field s (c .before .before .before .before .before .before .before .before .before .before .before .before .before .before .before .before .before .before .before .before .before .before .put-head .last .0) (c .before .before .before .before .before .before .before .before .before .before .before .before .before .before .before .before .before .put .last .0) 11 x₁ 3 (c .before .before .before .before .before .before .before .before .before .before .before .before .before .before .before .before .before .before .number .result) (d .tunnel .0)
-    (c .before .before .before .before .before .before .before .before .before .before .before .before .before .before .before .before .before .before .number .ensures) refl (c .before .before .before .before .before .before .before .before .before .before .before .before .before .before .before .before .before .before .before .before .before .before .put-head .ensures) (c .before .before .before .before .before .before .before .before .before .before .before .before .before .before .before .before .before .put .ensures) in
-    let o₃ : c .before .before .before .before .before .before .before .before .before .before .before .before .put2 .last .0 ≡ laid s 0 x₃ =
-    laid-field s (c .before .before .before .before .before .before .before .before .before .before .before .before .before .before .before .before .before .put .last .0) (c .before .before .before .before .before .before .before .before .before .before .before .before .put2 .last .0) 14 x₂ 4 (c .before .before .before .before .before .before .before .before .before .before .before .before .before .ticks .result) (d .period .0)
-    (c .before .before .before .before .before .before .before .before .before .before .before .before .before .ticks .ensures) refl o₂ (c .before .before .before .before .before .before .before .before .before .before .before .before .put2 .ensures) in
-    let o₄ : c .before .before .before .before .before .before .before .put3 .last .0 ≡ laid s 0 x₄ =
-    laid-field s (c .before .before .before .before .before .before .before .before .before .before .before .before .put2 .last .0) (c .before .before .before .before .before .before .before .put3 .last .0) 18 x₃ 4 (c .before .before .before .before .before .before .before .before .ticks2 .result) (d .capacity .0)
-    (c .before .before .before .before .before .before .before .before .ticks2 .ensures) refl o₃ (c .before .before .before .before .before .before .before .put3 .ensures) in
-    laid-field s (c .before .before .before .before .before .before .before .put3 .last .0) (c .before .before .put4 .last .0) 22 x₄ 1 (d .priority) (d .priority)
-    refl refl o₄ (c .before .before .put4 .ensures)
+    let o₂ : id .put .last .0 ≡ laid s 0 x₂ =
+    laid-field s (front .put-head .last .0) (id .put .last .0) 11 x₁ 3 (id .before .number .result) (d .tunnel .0)
+    (id .before .number .ensures) refl (front .put-head .ensures) (id .put .ensures) in
+    let o₃ : period .put2 .last .0 ≡ laid s 0 x₃ =
+    laid-field s (id .put .last .0) (period .put2 .last .0) 14 x₂ 4 (period .before .ticks .result) (d .period .0)
+    (period .before .ticks .ensures) refl o₂ (period .put2 .ensures) in
+    let o₄ : capacity .put3 .last .0 ≡ laid s 0 x₄ =
+    laid-field s (period .put2 .last .0) (capacity .put3 .last .0) 18 x₃ 4 (capacity .before .ticks2 .result) (d .capacity .0)
+    (capacity .before .ticks2 .ensures) refl o₃ (capacity .put3 .ensures) in
+    laid-field s (capacity .put3 .last .0) (priority .put4 .last .0) 22 x₄ 1 (d .priority) (d .priority) refl refl o₄
+    (priority .put4 .ensures)
 
 pub put-admit-spec : {M : Type 1} → statement M
 put-admit-spec =

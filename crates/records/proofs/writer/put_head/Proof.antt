@@ -27,14 +27,17 @@ same-length c = search needs
 returns : tie.Need-returns
 unfolding head
 returns c =
-    let s : List ℕ = c .before .before .before .before .before .before .before .before .before .before .before .before .before .before .args .out .now in
-    let tag : ℕ = c .before .before .before .before .before .before .before .before .before .before .before .before .before .before .args .tag in
-    let long : ℕ = c .before .before .before .before .before .before .before .before .before .before .before .before .before .before .args .payload in
-    let o₂ : c .before .before .before .before .before .before .before .put2 .last .0 ≡ laid s 0 (bytesOf 1 tag ++ bytesOf 2 long) =
-    laid-field s (c .before .before .before .before .before .before .before .before .before .before .before .put .last .0) (c .before .before .before .before .before .before .before .put2 .last .0) 1 (bytesOf 1 tag) 2 long long refl refl
-    (c .before .before .before .before .before .before .before .before .before .before .before .put .ensures) (c .before .before .before .before .before .before .before .put2 .ensures) in
-    laid-field s (c .before .before .before .before .before .before .before .put2 .last .0) (c .before .before .put3 .last .0) 3 (bytesOf 1 tag ++ bytesOf 2 long) 8 (c .before .before .before .ticks .result) (c .before .before .before .before .before .before .before .before .before .before .before .before .before .before .args .time .0)
-    (c .before .before .before .ticks .ensures) refl o₂ (c .before .before .put3 .ensures)
+    let time = c .before .before in
+    let second = time .before .before .before .before .before in
+    let first = second .before .before .before .before in
+    let a = first .before .before .before .args in
+    let s : List ℕ = a .out .now in
+    let x : List ℕ = bytesOf 1 (a .tag) ++ bytesOf 2 (a .payload) in
+    let o₂ : second .put2 .last .0 ≡ laid s 0 x =
+    laid-field s (first .put .last .0) (second .put2 .last .0) 1 (bytesOf 1 (a .tag)) 2 (a .payload) (a .payload) refl refl
+    (first .put .ensures) (second .put2 .ensures) in
+    laid-field s (second .put2 .last .0) (time .put3 .last .0) 3 x 8 (time .before .ticks .result) (a .time .0)
+    (time .before .ticks .ensures) refl o₂ (time .put3 .ensures)
 
 pub put-head-spec : {M : Type 1} → statement M
 put-head-spec =

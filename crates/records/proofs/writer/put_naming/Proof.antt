@@ -1,8 +1,6 @@
 -- `records::writer::put_naming` meets its contract: the identifier is laid behind the head. Assumes nothing.
 use borrow.Author.Needs.{needs}
-use Prim.Native.Nat.{ℕ}
 use mathlib.Core.Path.{refl}
-use mathlib.Core.List.{List}
 use Rattle.records.specs.Encode.{head}
 use Rattle.records.proofs.Laid.{laid-field}
 use Rattle.records.proofs.writer.put_naming.Statement.{statement}
@@ -26,9 +24,11 @@ same-length c = search needs
 returns : tie.Need-returns
 unfolding head
 returns c =
-    let s : List ℕ = c .before .before .before .before .before .before .before .before .before .before .args .out .now in
-    laid-field s (c .before .before .before .before .before .before .before .put-head .last .0) (c .before .before .put .last .0) 11 (head (c .before .before .before .before .before .before .before .before .before .before .args .tag) 11 (c .before .before .before .before .before .before .before .before .before .before .args .time .0)) 3
-    (c .before .before .before .number .result) (c .before .before .before .before .before .before .before .before .before .before .args .id .0) (c .before .before .before .number .ensures) refl (c .before .before .before .before .before .before .before .put-head .ensures) (c .before .before .put .ensures)
+    let id = c .before .before in
+    let front = id .before .before .before .before .before in
+    let a = front .before .before .before .args in
+    laid-field (a .out .now) (front .put-head .last .0) (id .put .last .0) 11 (head (a .tag) 11 (a .time .0)) 3
+    (id .before .number .result) (a .id .0) (id .before .number .ensures) refl (front .put-head .ensures) (id .put .ensures)
 
 pub put-naming-spec : {M : Type 1} → statement M
 put-naming-spec =
