@@ -6,8 +6,8 @@ use native.Mathlib.Omega.{arith}
 use mathlib.Core.Path.{_≡_, refl, ap, sym, _∙_, subst}
 use mathlib.Core.Bool.{true}
 use mathlib.Core.List.{List, [], _∷_, _++_}
-use lib.ListN.{length, getD, take, drop, length-drop}
-use lib.Seq.{take-suc, take-add, drop-drop, getD-drop}
+use lib.ListN.{length, getD, take, drop}
+use lib.Seq.{take-add, drop-drop}
 use lib.Dec.{leb}
 use borrow.Author.Tests.{le-leb}
 use Rattle.rules.specs.Limits.{largestTunnel}
@@ -16,9 +16,11 @@ use Rattle.records.specs.declared.answers.Event.{Event}
 use Rattle.records.specs.declared.answers.Read.the-variants.{Event as Got}
 use Rattle.records.specs.Bytes.{AreBytes, number, bytesOf}
 use Rattle.records.specs.Record.{known, payload, tag, lengthSaid, time, identifier, description, asked, call}
-use Rattle.records.specs.Answer.{readSpec}
-use Rattle.records.specs.Encode.{callOf, tagOf, fieldsOf, head, recordOf, sizeOf, InRange}
-use Rattle.records.proofs.Tags.{Tag, is-admit, is-wake, is-block, is-remove, is-tick, tag-cases, payload-bounds, payload-admit, payload-naming, payload-tick}
+use Rattle.records.specs.Answer.{callOf, readSpec}
+use Rattle.records.specs.Rows.{Layout, admit-has, wake-has, block-has, remove-has, tick-has}
+use Rattle.records.specs.Encode.{tagOf, fieldsOf, head, recordOf, sizeOf, InRange}
+use Rattle.records.proofs.Digits.{take-more}
+use Rattle.records.proofs.Tags.{known-layout, payload-bounds}
 use Rattle.records.proofs.Exactly.{Whole, read-whole, asked-tag, read-size}
 
 byte-at : (s : List ℕ) (i : ℕ) → AreBytes s → getD s i 0 < 256
@@ -47,10 +49,7 @@ module _ (s : List ℕ) (h : AreBytes s) where
       let small : b < 256 = byte-at s (at + w) h in
       let front : (n * 256 + b) / 256 ≡ n = omega arith in
       let last : (n * 256 + b) % 256 ≡ b = omega arith in
-      let more : take (suc w) (drop at s) ≡ take w (drop at s) ++ (b ∷ []) =
-      take-suc (drop at s) w 0 (omega (arith, length-drop at s))
-      ∙ ap (λ (x : ℕ). take w (drop at s) ++ (x ∷ [])) (getD-drop at s w 0) in
-      rw (front, last, bytes-number w at (omega arith)) (sym more)
+      rw (front, last, bytes-number w at (omega arith)) (sym (take-more s at w p))
 
   -- one byte at a fixed place
   byte-number : (at n : ℕ) → number s at 1 ≡ n → at + 1 ≤ length s → bytesOf 1 n ≡ take 1 (drop at s)
@@ -71,46 +70,36 @@ module _ (s : List ℕ) (h : AreBytes s) where
       ∙ part s 14 4 5)
       ∙ part s 11 3 9
 
-  fields-again : (k m : ℕ) → Tag k → 3 + payload k ≤ length s → 11 + m ≡ 3 + payload k → fieldsOf (asked k s) ≡ take m (drop 11 s)
-  fields-again k m (is-admit e) p q =
-      let n : m ≡ 12 = omega (arith, payload-admit k e) in
-      rw (e, n) (admit-again (omega (arith, payload-admit k e)))
-  fields-again k m (is-wake e) p q =
-      let n : m ≡ 3 = omega (arith, payload-naming k (omega arith) (omega arith)) in
-      rw (e, n) (bytes-number 3 11 (omega (arith, payload-naming k (omega arith) (omega arith))))
-  fields-again k m (is-block e) p q =
-      let n : m ≡ 3 = omega (arith, payload-naming k (omega arith) (omega arith)) in
-      rw (e, n) (bytes-number 3 11 (omega (arith, payload-naming k (omega arith) (omega arith))))
-  fields-again k m (is-remove e) p q =
-      let n : m ≡ 3 = omega (arith, payload-naming k (omega arith) (omega arith)) in
-      rw (e, n) (bytes-number 3 11 (omega (arith, payload-naming k (omega arith) (omega arith))))
-  fields-again k m (is-tick e) p q =
-      let n : m ≡ 0 = omega (arith, payload-tick k e) in
-      rw (e, n)
+  fields-again : (k n m : ℕ) → Layout k n → 3 + n ≤ length s → 11 + m ≡ 3 + n → fieldsOf (asked k s) ≡ take m (drop 11 s)
+  fields-again k n m admit-has p q = let e : m ≡ 12 = omega arith in rw e (admit-again (omega arith))
+  fields-again k n m wake-has p q = let e : m ≡ 3 = omega arith in rw e (bytes-number 3 11 (omega arith))
+  fields-again k n m block-has p q = let e : m ≡ 3 = omega arith in rw e (bytes-number 3 11 (omega arith))
+  fields-again k n m remove-has p q = let e : m ≡ 3 = omega arith in rw e (bytes-number 3 11 (omega arith))
+  fields-again k n m tick-has p q = let e : m ≡ 0 = omega arith in rw e
 
   record-again : known (tag s) ≡ true → lengthSaid s ≡ payload (tag s) → 3 + payload (tag s) ≤ length s
       → recordOf (call s) ≡ take (3 + payload (tag s)) s
   unfolding recordOf call
   record-again k l p =
-      let g : tagOf (asked (tag s) s) ≡ tag s = asked-tag (tag s) s (tag-cases (tag s) k) in
+      let l′ : Layout (tag s) (payload (tag s)) = known-layout (tag s) k in
+      let g : tagOf (asked (tag s) s) ≡ tag s = asked-tag (tag s) (payload (tag s)) s l′ in
       let m : ℕ = payload (tag s) - 8 in
       let sum : 11 + m ≡ 3 + payload (tag s) = omega (arith, payload-bounds (tag s) k) in
       let front : head (tagOf (asked (tag s) s)) (payload (tagOf (asked (tag s) s))) (time s) ≡ take 11 s =
       ap (λ (n : ℕ). head n (payload n) (time s)) g
       ∙ ap (λ (n : ℕ). head (tag s) n (time s)) (sym l)
       ∙ head-again (omega (arith, payload-bounds (tag s) k)) in
-      cat front (fields-again (tag s) m (tag-cases (tag s) k) p sum) ∙ part s 0 11 m ∙ ap (λ (n : ℕ). take n s) sum
+      cat front (fields-again (tag s) (payload (tag s)) m l′ p sum) ∙ part s 0 11 m ∙ ap (λ (n : ℕ). take n s) sum
 
   identifier-again : leb (identifier s) largestTunnel ≡ true
   identifier-again = le-leb (identifier s) largestTunnel (omega (arith, number-below 3 11))
 
-  in-range-again : (k : ℕ) → Tag k → InRange (record { now = time s; asked = asked k s })
-  in-range-again k (is-admit e) =
-      rw e ((number-below 8 3, (number-below 4 14, number-below 4 18, byte-at s 22 h)), identifier-again)
-  in-range-again k (is-wake e) = rw e ((number-below 8 3, tt), identifier-again)
-  in-range-again k (is-block e) = rw e ((number-below 8 3, tt), identifier-again)
-  in-range-again k (is-remove e) = rw e ((number-below 8 3, tt), identifier-again)
-  in-range-again k (is-tick e) = rw e ((number-below 8 3, tt), refl)
+  in-range-again : (k n : ℕ) → Layout k n → InRange (record { now = time s; asked = asked k s })
+  in-range-again k n admit-has = ((number-below 8 3, (number-below 4 14, number-below 4 18, byte-at s 22 h)), identifier-again)
+  in-range-again k n wake-has = ((number-below 8 3, tt), identifier-again)
+  in-range-again k n block-has = ((number-below 8 3, tt), identifier-again)
+  in-range-again k n remove-has = ((number-below 8 3, tt), identifier-again)
+  in-range-again k n tick-has = ((number-below 8 3, tt), refl)
 
 -- what was read is in range, and its record is the bytes that were read
 pub read-again : (s : List ℕ) (e : Event) → AreBytes s → readSpec s ≡ Got e
@@ -119,6 +108,6 @@ unfolding call
 read-again s e h r =
     let w : Whole s e = read-whole s e r in
     let n : sizeOf e ≡ 3 + payload (tag s) = read-size s e r .0 in (
-      subst InRange (sym (w .same)) (in-range-again s h (tag s) (tag-cases (tag s) (w .known-tag))),
+      subst InRange (sym (w .same)) (in-range-again s h (tag s) (payload (tag s)) (known-layout (tag s) (w .known-tag))),
       ap recordOf (w .same) ∙ record-again s h (w .known-tag) (w .said) (w .fits) ∙ ap (λ (k : ℕ). take k s) (sym n),
     )

@@ -15,20 +15,18 @@ use Rattle.rules.specs.Vcpu.{Description}
 use Rattle.rules.specs.Change.{Change, admit, wake, block, remove, tick}
 use Rattle.rules.specs.Turn.{Call}
 use Rattle.records.specs.declared.answers.Event.{Event}
-use Rattle.records.specs.declared.answers.Event.the-variants.{Admit, Wake, Block, Remove, Tick}
 use Rattle.records.specs.declared.answers.Read.the-variants.{Event as Got}
 use Rattle.records.specs.Bytes.{AreBytes, number, bytesOf}
-use Rattle.records.specs.Record.{event, known, payloadOf, payload, tag, lengthSaid, time, identifier, description, asked, call, reading, waits}
-use Rattle.records.specs.Answer.{eventSaid, refusal, readSpec}
-use Rattle.records.specs.Encode.{callOf, tagOf, fieldsOf, head, recordOf, sizeOf, has24Bits, TermsOfTheirTypes, OfItsTypes, InRange, isWritten, writtenSize, written}
+use Rattle.records.specs.Record.{event, no, known, payloadOf, payload, reading, waits}
+use Rattle.records.specs.Record.{tag, lengthSaid, time, identifier, description, asked, call}
+use Rattle.records.specs.Answer.{callOf, readSaid, readSpec}
+use Rattle.records.specs.Encode.{tagOf, fieldsOf, head, recordOf, sizeOf, isWritten, writtenSize, written}
+use Rattle.records.specs.Encode.{has24Bits, TermsOfTheirTypes, OfItsTypes, InRange}
 use Rattle.records.proofs.Digits.{number-field, bytes-below, bytes-then}
+use Rattle.records.proofs.Paper.{same-call, same-terms, said-again}
 use Rattle.records.proofs.Cases.{whole-record, answers}
 use Rattle.records.proofs.Written.{length-record, record-tag, record-known, record-said}
-use Rattle.records.proofs.Behind.{same-call, tag-append, said-append, waits-header, waits-short, read-waits}
-
-same-terms : (d : Description) {i p c u : ℕ} → i ≡ d .tunnel → p ≡ d .period → c ≡ d .capacity → u ≡ d .priority
-    → _≡_ {A = Description} (record { tunnel = i; period = p; capacity = c; priority = u }) d
-same-terms d e f g h = rw (e, f, g, h)
+use Rattle.records.proofs.Behind.{tag-append, said-append, waits-header, waits-short, read-waits}
 
 three-bytes : (i : ℕ) → leb i largestTunnel ≡ true → i < 256 ^ 3
 three-bytes i n = omega (arith, leb-true i largestTunnel n)
@@ -59,7 +57,8 @@ module _ (now : ℕ) (t : List ℕ) where
       let u : List ℕ = bytesOf 1 (d .priority) in
       let i : identifier (whole (admit d)) ≡ d .tunnel = number-field a (p ++ (c ++ (u ++ t))) 3 (d .tunnel) n in
       let e : number (whole (admit d)) 14 4 ≡ d .period = number-field (a ++ bytesOf 3 (d .tunnel)) (c ++ (u ++ t)) 4 (d .period) (h .0) in
-      let f : number (whole (admit d)) 18 4 ≡ d .capacity = number-field (a ++ (bytesOf 3 (d .tunnel) ++ p)) (u ++ t) 4 (d .capacity) (h .1) in
+      let f : number (whole (admit d)) 18 4 ≡ d .capacity =
+      number-field (a ++ (bytesOf 3 (d .tunnel) ++ p)) (u ++ t) 4 (d .capacity) (h .1) in
       let g : d .priority % 256 ≡ d .priority = omega (arith, h .2) in
       same-terms d i e f g
 
@@ -83,14 +82,6 @@ reads-back c h t =
     let p : 3 + payload (tag s) ≤ length s = omega (arith, ap payload g, length-record c, length-append (recordOf c) t) in
     let a : asked (tag s) s ≡ c .asked = ap (λ (n : ℕ). asked n s) g ∙ asked-back (c .now) t (c .asked) (h .1) (h .0 .1) in
     whole-record s k l p ∙ ap event (same-call (time-back (c .now) t (c .asked) (h .0 .0)) a)
-
--- an event is what its own values say
-pub said-again : (e : Event) → eventSaid (callOf e) ≡ e
-said-again (Admit m d) = refl
-said-again (Wake m i) = refl
-said-again (Block m i) = refl
-said-again (Remove m i) = refl
-said-again (Tick m) = refl
 
 pub event-reads-back : (e : Event) → InRange (callOf e) → (t : List ℕ) → readSpec (recordOf (callOf e) ++ t) ≡ Got e
 event-reads-back e h t = answers (recordOf (callOf e) ++ t) (event (callOf e)) (reads-back (callOf e) h t) ∙ ap Got (said-again e)
@@ -149,5 +140,5 @@ part-waits c k h = go (leb 3 k) refl
         waits-short s long (ap known g ∙ record-known c) e (omega (arith, size, ap payload g, length-record c))
 
 -- a proper part of a record is answered by 20
-pub part-read : (c : Call) (k : ℕ) → k < length (recordOf c) → readSpec (take k (recordOf c)) ≡ refusal 20
+pub part-read : (c : Call) (k : ℕ) → k < length (recordOf c) → readSpec (take k (recordOf c)) ≡ readSaid (no 20)
 part-read c k h = read-waits (take k (recordOf c)) (part-waits c k h)

@@ -10,15 +10,17 @@ use lib.Dec.{ltb, eqb}
 use lib.ListN.{length, getD, replicate, length-append, List·getD-append}
 use borrow.Author.Tests.{ltb-true, ltb-false, eqb-true, eqb-false, lt-ltb, le-ltb, eq-eqb, ne-eqb}
 use Rattle.rules.proofs.Tests.{clash}
-use Rattle.rules.specs.Change.{Change, admit, wake, block, remove}
-use Rattle.rules.specs.Turn.{Call}
+use Rattle.rules.specs.Change.{admit, wake, block, remove}
 use Rattle.records.specs.declared.answers.Read.{Read}
 use Rattle.records.specs.declared.answers.Read.the-variants.{Event as Got, No}
 use Rattle.records.specs.Bytes.{AreBytes, number}
-use Rattle.records.specs.Record.{event, no, known, payload, tag, lengthSaid, time, identifier, description, asked, call, reading, waits}
-use Rattle.records.specs.Answer.{refusal, readSaid, readSpec}
+use Rattle.records.specs.Record.{event, no, known, payload, reading, waits}
+use Rattle.records.specs.Record.{tag, lengthSaid, time, identifier, description, asked, call}
+use Rattle.records.specs.Answer.{readSaid, readSpec}
+use Rattle.records.specs.Rows.{Layout, admit-has, wake-has, block-has, remove-has, tick-has}
+use Rattle.records.proofs.Paper.{same-call}
 use Rattle.records.proofs.Digits.{number-append}
-use Rattle.records.proofs.Tags.{Tag, is-admit, is-wake, is-block, is-remove, is-tick, tag-cases, payload-bounds, payload-admit, payload-naming}
+use Rattle.records.proofs.Tags.{known-layout, payload-bounds}
 use Rattle.records.proofs.Cases.{short-header, unknown-tag, other-length, short-payload, whole-record, answers}
 
 -- the five cases, told apart by what the first bytes are
@@ -32,7 +34,8 @@ pub data Case (s : List ℕ) : Type 0 where
 pub case : (s : List ℕ) → Case s
 case s = first (ltb (length s) 3) refl
   where
-    fourth : 3 ≤ length s → known (tag s) ≡ true → lengthSaid s ≡ payload (tag s) → (b : Bool) → ltb (length s) (3 + payload (tag s)) ≡ b → Case s
+    fourth : 3 ≤ length s → known (tag s) ≡ true → lengthSaid s ≡ payload (tag s)
+        → (b : Bool) → ltb (length s) (3 + payload (tag s)) ≡ b → Case s
     fourth h k e true f = short h k e (ltb-true (length s) (3 + payload (tag s)) f)
     fourth h k e false f = whole h k e (ltb-false (length s) (3 + payload (tag s)) f)
 
@@ -68,10 +71,8 @@ module _ (s : List ℕ) where
 
   settled-whole : 3 ≤ length s → known (tag s) ≡ true → lengthSaid s ≡ payload (tag s) → 3 + payload (tag s) ≤ length s → waits s ≡ false
   unfolding waits
-  settled-whole h k e p = rw (le-ltb (length s) 3 h, k, eq-eqb (lengthSaid s) (payload (tag s)) e, le-ltb (length s) (3 + payload (tag s)) p)
-
-pub same-call : {n m : ℕ} {a b : Change} → n ≡ m → a ≡ b → _≡_ {A = Call} (record { now = n; asked = a }) (record { now = m; asked = b })
-same-call e f = rw (e, f)
+  settled-whole h k e p =
+      rw (le-ltb (length s) 3 h, k, eq-eqb (lengthSaid s) (payload (tag s)) e, le-ltb (length s) (3 + payload (tag s)) p)
 
 module _ (s t : List ℕ) where
   pub tag-append : 3 ≤ length s → tag (s ++ t) ≡ tag s
@@ -92,19 +93,19 @@ module _ (s t : List ℕ) where
   named-append : 14 ≤ length s → identifier (s ++ t) ≡ identifier s
   named-append h = number-append 3 11 s t (omega arith)
 
-  asked-append : (k : ℕ) → Tag k → 3 + payload k ≤ length s → asked k (s ++ t) ≡ asked k s
-  asked-append k (is-admit e) p = rw e (ap admit (described-append (omega (arith, payload-admit k e))))
-  asked-append k (is-wake e) p = rw e (ap wake (named-append (omega (arith, payload-naming k (omega arith) (omega arith)))))
-  asked-append k (is-block e) p = rw e (ap block (named-append (omega (arith, payload-naming k (omega arith) (omega arith)))))
-  asked-append k (is-remove e) p = rw e (ap remove (named-append (omega (arith, payload-naming k (omega arith) (omega arith)))))
-  asked-append k (is-tick e) p = rw e
+  asked-append : (k n : ℕ) → Layout k n → 3 + n ≤ length s → asked k (s ++ t) ≡ asked k s
+  asked-append k n admit-has p = ap admit (described-append (omega arith))
+  asked-append k n wake-has p = ap wake (named-append (omega arith))
+  asked-append k n block-has p = ap block (named-append (omega arith))
+  asked-append k n remove-has p = ap remove (named-append (omega arith))
+  asked-append k n tick-has p = refl
 
   call-append : known (tag s) ≡ true → 3 + payload (tag s) ≤ length s → call (s ++ t) ≡ call s
   unfolding call
   call-append k p =
       let g : tag (s ++ t) ≡ tag s = tag-append (omega arith) in
       let m : time (s ++ t) ≡ time s = number-append 8 3 s t (omega (arith, payload-bounds (tag s) k)) in
-      same-call m (ap (λ (n : ℕ). asked n (s ++ t)) g ∙ asked-append (tag s) (tag-cases (tag s) k) p)
+      same-call m (ap (λ (n : ℕ). asked n (s ++ t)) g ∙ asked-append (tag s) (payload (tag s)) (known-layout (tag s) k) p)
 
   append-case : Case s → waits s ≡ false → reading (s ++ t) ≡ reading s
   append-case (header h) w = clash (sym (waits-header s h) ∙ w)
@@ -137,7 +138,7 @@ waits-20 s (short h k e p) w = short-payload s h k e p
 waits-20 s (whole h k e p) w = clash (sym w ∙ settled-whole s h k e p)
 
 -- what waits is answered by 20
-pub read-waits : (s : List ℕ) → waits s ≡ true → readSpec s ≡ refusal 20
+pub read-waits : (s : List ℕ) → waits s ≡ true → readSpec s ≡ readSaid (no 20)
 read-waits s w = answers s (no 20) (waits-20 s (case s) w)
 
 zeros : (n : ℕ) → AreBytes (replicate n 0)

@@ -1,12 +1,12 @@
--- Laws of big-endian numbers, over the width: bytes behind and before do not matter, and the bytes of a number give it back.
+-- Laws of big-endian numbers, over the width: bytes behind and before do not matter, the bytes of a number give it back, and one byte more.
 -- Assumes nothing.
 use Prim.Native.Nat.{ℕ, zero, suc, _+_, _/_, _%_, _^_, _≤_, _<_}
 use native.Mathlib.Nat.{zero-add, pow-suc}
 use native.Mathlib.Omega.{arith}
-use mathlib.Core.Path.{_≡_, refl, sym, _∙_}
+use mathlib.Core.Path.{_≡_, refl, ap, sym, _∙_}
 use mathlib.Core.List.{List, [], _∷_, _++_}
-use lib.ListN.{length, getD, List·getD-append}
-use lib.Seq.{getD-append-add, getD-at}
+use lib.ListN.{length, getD, take, drop, length-drop, List·getD-append}
+use lib.Seq.{getD-append-add, getD-at, take-suc, getD-drop}
 use Rattle.records.specs.Bytes.{AreBytes, number, bytesOf}
 use Rattle.records.proofs.Laid.{length-bytes}
 
@@ -34,6 +34,12 @@ number-field a b w n h =
     number-behind w a (bytesOf w n ++ b)
     ∙ number-append w 0 (bytesOf w n) b (omega (arith, length-bytes w n))
     ∙ number-bytes w n h
+
+-- one byte more of a part
+pub take-more : (s : List ℕ) (at w : ℕ) → at + suc w ≤ length s → take (suc w) (drop at s) ≡ take w (drop at s) ++ (getD s (at + w) 0 ∷ [])
+take-more s at w h =
+    take-suc (drop at s) w 0 (omega (arith, length-drop at s))
+    ∙ ap (λ (x : ℕ). take w (drop at s) ++ (x ∷ [])) (getD-drop at s w 0)
 
 append-bytes : (s t : List ℕ) → AreBytes s → AreBytes t → AreBytes (s ++ t)
 append-bytes [] t h k = k

@@ -1,29 +1,25 @@
--- When each answer is given: 20 exactly where reading waits, 21 for the tags that are kept, and an event with its whole record there,
--- of as many bytes as `size` says. Assumes nothing.
+-- 20 is given exactly where reading waits; and where an event is read its whole record is there, of as many bytes as `size` says.
+-- Assumes nothing.
 use Prim.Native.Nat.{ℕ, _+_, _≤_}
 use native.Mathlib.Omega.{arith}
 use mathlib.Core.Path.{_≡_, refl, ap, sym, _∙_}
 use mathlib.Core.Bool.{true}
 use mathlib.Core.List.{List}
-use mathlib.Core.Logic.{_⊎_, inl, inr, _↔_}
+use mathlib.Core.Logic.{_↔_}
 use lib.ListN.{length}
-use Rattle.rules.specs.Change.{Change, admit, wake, block, remove, tick}
 use Rattle.rules.specs.Turn.{Call}
 use Rattle.records.specs.declared.answers.Event.{Event}
 use Rattle.records.specs.declared.answers.Read.the-variants.{Event as Got}
 use Rattle.records.specs.Record.{event, no, known, payload, tag, lengthSaid, asked, call, waits}
-use Rattle.records.specs.Answer.{eventSaid, refusal, readSpec}
-use Rattle.records.specs.Encode.{callOf, tagOf, sizeOf}
-use Rattle.records.proofs.Tags.{Tag, is-admit, is-wake, is-block, is-remove, is-tick, tag-cases, known-not}
+use Rattle.records.specs.Answer.{callOf, eventSaid, readSaid, readSpec}
+use Rattle.records.specs.Encode.{tagOf, sizeOf}
+use Rattle.records.specs.Rows.{Layout, admit-has, wake-has, block-has, remove-has, tick-has}
+use Rattle.records.proofs.Paper.{values-again}
+use Rattle.records.proofs.Tags.{known-layout}
 use Rattle.records.proofs.Cases.{short-header, unknown-tag, other-length, short-payload, whole-record, answers}
 use Rattle.records.proofs.Behind.{Case, header, unknown, other, short, whole, case, told, waits-header, waits-short, read-waits}
 
--- "Tags 6 and 7 are kept for device work and are unknown until it is asked for"
-pub kept-tags : (s : List ℕ) → 3 ≤ length s → (tag s ≡ 6) ⊎ (tag s ≡ 7) → readSpec s ≡ refusal 21
-kept-tags s h (inl e) = answers s (no 21) (unknown-tag s h (known-not (tag s) (λ a b. omega arith)))
-kept-tags s h (inr e) = answers s (no 21) (unknown-tag s h (known-not (tag s) (λ a b. omega arith)))
-
-twenty-waits : (s : List ℕ) → Case s → readSpec s ≡ refusal 20 → waits s ≡ true
+twenty-waits : (s : List ℕ) → Case s → readSpec s ≡ readSaid (no 20) → waits s ≡ true
 unfolding told
 twenty-waits s (header h) r = waits-header s h
 twenty-waits s (unknown h k) r = absurd (omega (arith, ap told (sym r ∙ answers s (no 21) (unknown-tag s h k))))
@@ -32,26 +28,18 @@ twenty-waits s (short h k e p) r = waits-short s h k e p
 twenty-waits s (whole h k e p) r = absurd (omega (arith, ap told (sym r ∙ answers s (event (call s)) (whole-record s k e p))))
 
 -- 20 is given exactly where more bytes can change the answer
-pub twenty-exactly : (s : List ℕ) → readSpec s ≡ refusal 20 ↔ waits s ≡ true
+pub twenty-exactly : (s : List ℕ) → readSpec s ≡ readSaid (no 20) ↔ waits s ≡ true
 twenty-exactly s = (λ r. twenty-waits s (case s) r, λ w. read-waits s w)
 
 got-same : {e f : Event} → Got e ≡ Got f → e ≡ f
 got-same r = cc
 
-pub asked-tag : (k : ℕ) (s : List ℕ) → Tag k → tagOf (asked k s) ≡ k
-asked-tag k s (is-admit e) = rw e
-asked-tag k s (is-wake e) = rw e
-asked-tag k s (is-block e) = rw e
-asked-tag k s (is-remove e) = rw e
-asked-tag k s (is-tick e) = rw e
-
--- the paper's values of an event that says them
-values-again : (n : ℕ) (a : Change) → callOf (eventSaid (record { now = n; asked = a })) ≡ record { now = n; asked = a }
-values-again n (admit d) = refl
-values-again n (wake t) = refl
-values-again n (block t) = refl
-values-again n (remove t) = refl
-values-again n tick = refl
+pub asked-tag : (k n : ℕ) (s : List ℕ) → Layout k n → tagOf (asked k s) ≡ k
+asked-tag k n s admit-has = refl
+asked-tag k n s wake-has = refl
+asked-tag k n s block-has = refl
+asked-tag k n s remove-has = refl
+asked-tag k n s tick-has = refl
 
 -- what stands in the bytes where an event was read
 pub record Whole (s : List ℕ) (e : Event) : Type 0 where
@@ -67,7 +55,7 @@ whole-case s e (unknown h k) r = absurd (omega (arith, ap told (sym r ∙ answer
 whole-case s e (other h k n) r = absurd (omega (arith, ap told (sym r ∙ answers s (no 22) (other-length s h k n))))
 whole-case s e (short h k l p) r = absurd (omega (arith, ap told (sym r ∙ answers s (no 20) (short-payload s h k l p))))
 whole-case s e (whole h k l p) r =
-    let same : e ≡ eventSaid (call s) = got-same (sym r ∙ answers s (event (call s)) (whole-record s k l p)) in
+    let same : e ≡ eventSaid (call s .now) (call s .asked) = got-same (sym r ∙ answers s (event (call s)) (whole-record s k l p)) in
     record { known-tag = k; said = l; fits = p; same = ap callOf same ∙ values-again (call s .now) (call s .asked) }
 
 pub read-whole : (s : List ℕ) (e : Event) → readSpec s ≡ Got e → Whole s e
@@ -79,5 +67,5 @@ unfolding call sizeOf
 read-size s e r =
     let w : Whole s e = read-whole s e r in
     let t : tagOf (callOf e .asked) ≡ tag s =
-    ap (λ (c : Call). tagOf (c .asked)) (w .same) ∙ asked-tag (tag s) s (tag-cases (tag s) (w .known-tag)) in
+    ap (λ (c : Call). tagOf (c .asked)) (w .same) ∙ asked-tag (tag s) (payload (tag s)) s (known-layout (tag s) (w .known-tag)) in
     (ap (λ (n : ℕ). 3 + payload n) t, omega (arith, ap payload t, w .fits))

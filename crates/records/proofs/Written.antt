@@ -13,7 +13,8 @@ use Rattle.rules.specs.Change.{Change, admit, wake, block, remove, tick}
 use Rattle.rules.specs.Turn.{Call}
 use Rattle.records.specs.declared.answers.Event.{Event}
 use Rattle.records.specs.Record.{known, payloadOf, payload, tag, lengthSaid}
-use Rattle.records.specs.Encode.{callOf, tagOf, fieldsOf, head, recordOf, sizeOf, has24Bits, isWritten, writtenSize, written, laid}
+use Rattle.records.specs.Answer.{callOf}
+use Rattle.records.specs.Encode.{tagOf, fieldsOf, head, recordOf, sizeOf, has24Bits, isWritten, writtenSize, written, laid}
 
 -- "admit, 20 bytes; wake, block, remove, 11 bytes each; tick, 8 bytes"
 record-says : (c : Call)

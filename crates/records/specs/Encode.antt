@@ -10,19 +10,10 @@ use lib.Seq.{sets}
 use Rattle.rules.specs.Limits.{largestTunnel}
 use Rattle.rules.specs.Change.{Change, admit, wake, block, remove, tick}
 use Rattle.rules.specs.Turn.{Call}
-use Rattle.turns.specs.Calls.{described}
 use Rattle.records.specs.declared.answers.Event.{Event}
-use Rattle.records.specs.declared.answers.Event.the-variants.{Admit, Wake, Block, Remove, Tick}
 use Rattle.records.specs.Bytes.{bytesOf}
 use Rattle.records.specs.Record.{payload}
-
--- the paper's values for each case of an event
-abbrev pub callOf : Event → Call
-callOf (Admit m d) = record { now = m .0; asked = admit (described d) }
-callOf (Wake m t) = record { now = m .0; asked = wake (t .0) }
-callOf (Block m t) = record { now = m .0; asked = block (t .0) }
-callOf (Remove m t) = record { now = m .0; asked = remove (t .0) }
-callOf (Tick m) = record { now = m .0; asked = tick }
+use Rattle.records.specs.Answer.{callOf}
 
 -- "1 admit, 2 wake, 3 block, 4 remove, 5 tick"
 abbrev pub tagOf : Change → ℕ

@@ -12,9 +12,10 @@ ghost use mathlib.Core.Path.{_≡_};
 ghost use mathlib.Core.Bool.{true};
 ghost use Prim.Native.Nat.{_+_, _≤_};
 ghost use lib.ListN.{length};
+ghost use Rattle.turns.specs.Calls.{described};
 ghost use Rattle.records.specs.Bytes.{number};
-ghost use Rattle.records.specs.Record.{known, payload as payloadBytes, tag as tagOf, call};
-ghost use Rattle.records.specs.Answer.{refusal, descriptionRead, eventSaid, payloadSaid, readSpec};
+ghost use Rattle.records.specs.Record.{payloadOf, known, payload as payloadBytes, tag as tagOf, description as saidDescription, call, no as refusedWith, reading};
+ghost use Rattle.records.specs.Answer.{callOf, paperRead, paperPayload};
 
 const HEADER: usize = 3;
 // Admit and tick; 6 and 7 are kept for device work.
@@ -23,13 +24,13 @@ const FIRST_TAG: u8 = 1;
 const LAST_TAG: u8 = 5;
 
 fn no(number: u8) -> Read
-    ensures { λ r. ⌜ r ≡ refusal number ⌝ }
+    ensures { λ r. ⌜ paperRead r ≡ refusedWith number ⌝ }
 {
     Read::No(Refusal { number, detail: 0 })
 }
 
 fn payload(tag: u8) -> Payload
-    ensures { λ r. ⌜ r ≡ payloadSaid tag ⌝ }
+    ensures { λ r. ⌜ paperPayload r ≡ payloadOf tag ⌝ }
 {
     if tag < FIRST_TAG {
         return Payload::Unknown;
@@ -76,7 +77,7 @@ fn capacity(bytes: &[u8]) -> u32
 
 fn description(bytes: &[u8]) -> Description
     requires { ⌜ 23 ≤ length (now bytes) ⌝ }
-    ensures { λ r. ⌜ r ≡ descriptionRead (now (bytes .entry)) ⌝ }
+    ensures { λ r. ⌜ described r ≡ saidDescription (now (bytes .entry)) ⌝ }
 {
     Description {
         tunnel: Tunnel::new(identifier(bytes)),
@@ -89,7 +90,7 @@ fn description(bytes: &[u8]) -> Description
 // The event of a whole record.
 fn event(tag: u8, bytes: &[u8]) -> Event
     requires { ⌜ (tag ≡ tagOf (now bytes)) × (known tag ≡ true) × (3 + payloadBytes tag ≤ length (now bytes)) ⌝ }
-    ensures { λ r. ⌜ r ≡ eventSaid (call (now (bytes .entry))) ⌝ }
+    ensures { λ r. ⌜ callOf r ≡ call (now (bytes .entry)) ⌝ }
 {
     let at = Moment::new(time(bytes));
     match tag {
@@ -103,7 +104,7 @@ fn event(tag: u8, bytes: &[u8]) -> Event
 
 // The record that begins the bytes; what lies behind a whole one is not looked at.
 pub fn read(bytes: &[u8]) -> Read
-    ensures { λ r. ⌜ r ≡ readSpec (now (bytes .entry)) ⌝ }
+    ensures { λ r. ⌜ paperRead r ≡ reading (now (bytes .entry)) ⌝ }
 {
     if bytes.len() < HEADER {
         return no(20);

@@ -13,7 +13,8 @@ ghost use Rattle.rules.specs.Limits.{largestTunnel};
 ghost use Rattle.rules.specs.Change.{admit};
 ghost use Rattle.turns.specs.Calls.{described};
 ghost use Rattle.records.specs.Bytes.{bytesOf};
-ghost use Rattle.records.specs.Encode.{callOf, head, fieldsOf, sizeOf, has24Bits, writtenSize, written, laid};
+ghost use Rattle.records.specs.Answer.{callOf};
+ghost use Rattle.records.specs.Encode.{head, fieldsOf, sizeOf, has24Bits, writtenSize, written, laid};
 
 // The bytes of the event's whole record.
 pub fn size(event: Event) -> usize

@@ -13,6 +13,7 @@ use Rattle.records.specs.declared.answers.Read.the-variants.{Event as Got, No}
 use Rattle.records.specs.declared.answers.Event.{Event}
 use Rattle.records.specs.Answer.{readSpec}
 use Rattle.records.specs.Encode.{sizeOf}
+use Rattle.records.proofs.Paper.{read-is}
 use Rattle.lines.specs.Serve.{timeOf, changeOf, refusalOf}
 use Rattle.lines.proofs.Served.{Going, going-start, going-next, going-end, going-full, going-waits, going-stops}
 use Rattle.lines.proofs.Reading.{some-bytes, within}
@@ -31,7 +32,7 @@ read-all : (c : tie.After-read Inv-loop μ-loop) → c .read .result ≡ readSpe
 read-all c =
     let used = c .before .before .before .before .loop .used in
     let input = c .before .before .before .before .before .before .before .args .input .now in
-    c .read .ensures ∙ ap readSpec (take-all (length input - used) (drop used input) (omega (arith, length-drop used input)))
+    read-is _ _ (c .read .ensures) ∙ ap readSpec (take-all (length input - used) (drop used input) (omega (arith, length-drop used input)))
 
 loop-holds : tie.Need-loop-holds Inv-loop μ-loop
 loop-holds c = going-start (c .before .before .args .input .now) (c .before .before .args .last) (c .before .before .args .core) (c .before .before .args .out .now) (c .before .before .pre)

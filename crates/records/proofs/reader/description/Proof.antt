@@ -1,5 +1,9 @@
 -- `records::reader::description` meets its contract: each field is what its callee read. Assumes nothing.
 use borrow.Author.Needs.{needs}
+use mathlib.Core.Path.{refl, ap, _∙_}
+use Rattle.units.specs.declared.Amount.{Amount}
+use Rattle.units.specs.declared.Tunnel.{Tunnel}
+use Rattle.records.proofs.Paper.{same-terms}
 use Rattle.records.proofs.reader.description.Statement.{statement}
 use Rattle.records.proofs.reader.description.Tie as tie
 
@@ -25,7 +29,13 @@ shared-slice-read-t9 : tie.Need-shared-slice-read-t9
 shared-slice-read-t9 c = search needs
 
 returns : tie.Need-returns
-returns c = cc
+returns c =
+    let id = c .before .before .before .before .before in
+    let period = c .before .before .before in
+    let capacity = c .before in
+    same-terms _ (ap (λ (t : Tunnel). t .0) (id .new .ensures) ∙ id .before .identifier .ensures)
+    (ap (λ (a : Amount). a .0) (period .new2 .ensures) ∙ period .before .period .ensures)
+    (ap (λ (a : Amount). a .0) (capacity .new3 .ensures) ∙ capacity .before .capacity .ensures) refl
 
 pub description-spec : {M : Type 1} → statement M
 description-spec =

@@ -5,10 +5,10 @@ use mathlib.Core.Path.{_≡_, refl, ap, sym, _∙_}
 use mathlib.Core.Bool.{true}
 use mathlib.Core.List.{List}
 use Prim.Native.Nat.{ℕ}
-use Rattle.records.specs.Record.{known, payload, tag, call, event, no}
-use Rattle.records.specs.declared.answers.Read.the-variants.{Event as Got}
-use Rattle.records.proofs.Tags.{bytes-said, none-said}
-use Rattle.records.proofs.Cases.{short-header, unknown-tag, other-length, short-payload, whole-record, answers}
+use Rattle.records.specs.Record.{known, payload, tag, event}
+use Rattle.records.specs.Answer.{paperPayload}
+use Rattle.records.proofs.Tags.{has-bytes, has-none}
+use Rattle.records.proofs.Cases.{short-header, unknown-tag, other-length, short-payload, whole-record}
 use Rattle.records.proofs.reader.read.Statement.{statement}
 use Rattle.records.proofs.reader.read.Tie as tie
 
@@ -16,7 +16,7 @@ no-requires : tie.Need-no-requires
 no-requires c κs = search needs
 
 returns : tie.Need-returns
-returns c = c .no .ensures ∙ sym (answers _ (no 20) (short-header _ (c .before .if1 .taken)))
+returns c = c .no .ensures ∙ sym (short-header _ (c .before .if1 .taken))
 
 shared-slice-read-tag : tie.Need-shared-slice-read-tag
 shared-slice-read-tag c = search needs
@@ -35,15 +35,19 @@ no-requires-2 c κs = search needs
 
 returns-2 : tie.Need-returns-2
 returns-2 c =
-    c .no2 .ensures
-    ∙ sym (answers _ (no 21) (unknown-tag _ (omega arith) (none-said _ (sym (c .before .before .before .payload .ensures) ∙ c .before .enum-told .given .1))))
+    let seen = c .before in
+    let none = sym (seen .before .before .payload .ensures) ∙ ap paperPayload (seen .enum-told .given .1) in
+    c .no2 .ensures ∙ sym (unknown-tag _ (omega arith) (has-none _ none))
 
--- what the tag's payload is, once the length is read
+-- once the length is read: the input, and what its tag asks for
+abbrev asks : tie.After-two → tie.After-asks
+asks c = c .before .before .before .before
+
 abbrev input : tie.After-two → List ℕ
-input c = c .before .before .before .before .before .before .before .before .before .before .args .bytes .now
+input c = asks c .before .before .before .before .before .before .args .bytes .now
 
-told : (c : tie.After-two) → (known (tag (input c)) ≡ true) × (payload (tag (input c)) ≡ c .before .before .before .before .asks .given .0 .0)
-told c = bytes-said (tag (input c)) _ (sym (c .before .before .before .before .before .before .payload .ensures) ∙ c .before .before .before .before .asks .given .1)
+told : (c : tie.After-two) → (known (tag (input c)) ≡ true) × (payload (tag (input c)) ≡ asks c .asks .given .0 .0)
+told c = has-bytes (tag (input c)) _ (sym (asks c .before .before .payload .ensures) ∙ ap paperPayload (asks c .asks .given .1))
 
 shared-slice-read-two : tie.Need-shared-slice-read-two
 shared-slice-read-two c = search needs
@@ -59,8 +63,8 @@ no-requires-3 c κs = search needs
 
 returns-3 : tie.Need-returns-3
 returns-3 c =
-    c .no3 .ensures
-    ∙ sym (answers _ (no 22) (other-length _ (omega arith) (told (c .before .before) .0) (λ e. c .before .if2 .taken (omega (arith, told (c .before .before) .1)))))
+    let h = told (c .before .before) in
+    c .no3 .ensures ∙ sym (other-length _ (omega arith) (h .0) (λ e. c .before .if2 .taken (omega (arith, h .1))))
 
 sub-rest : tie.Need-sub-rest
 sub-rest c = search needs
@@ -73,16 +77,16 @@ no-requires-4 c κs = search needs
 
 returns-4 : tie.Need-returns-4
 returns-4 c =
-    c .no4 .ensures
-    ∙ sym (answers _ (no 20) (short-payload _ (omega arith) (told (c .before .before .before) .0) (omega (arith, told (c .before .before .before) .1)) (omega (arith, told (c .before .before .before) .1))))
+    let h = told (c .before .before .before) in
+    c .no4 .ensures ∙ sym (short-payload _ (omega arith) (h .0) (omega (arith, h .1)) (omega (arith, h .1)))
 
 event-requires : tie.Need-event-requires
-event-requires c κs = (refl, told (c .before .before) .0, omega (arith, told (c .before .before) .1))
+event-requires c κs = let h = told (c .before .before) in (refl, h .0, omega (arith, h .1))
 
 returns-5 : tie.Need-returns-5
 returns-5 c =
-    ap Got (c .event .ensures)
-    ∙ sym (answers _ (event (call (input (c .before .before .before)))) (whole-record _ (told (c .before .before .before) .0) (omega (arith, told (c .before .before .before) .1)) (omega (arith, told (c .before .before .before) .1))))
+    let h = told (c .before .before .before) in
+    ap event (c .event .ensures) ∙ sym (whole-record _ (h .0) (omega (arith, h .1)) (omega (arith, h .1)))
 
 pub read-spec : {M : Type 1} → statement M
 read-spec =

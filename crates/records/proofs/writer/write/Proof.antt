@@ -9,7 +9,8 @@ use lib.ListN.{length}
 use borrow.Author.Tests.{not-true, not-false}
 use Rattle.records.specs.declared.answers.Event.{Event}
 use Rattle.records.specs.Record.{payloadOf, payload}
-use Rattle.records.specs.Encode.{callOf, head, recordOf, sizeOf, writtenSize, written, laid}
+use Rattle.records.specs.Answer.{callOf}
+use Rattle.records.specs.Encode.{head, recordOf, sizeOf, writtenSize, written, laid}
 use Rattle.records.proofs.Written.{kept, too-wide, no-room, put-whole}
 use Rattle.records.proofs.writer.write.Statement.{statement}
 use Rattle.records.proofs.writer.write.Tie as tie
@@ -49,8 +50,9 @@ enum-known-event c = search needs
 put-admit-requires : tie.Need-put-admit-requires
 unfolding sizeOf payload payloadOf
 put-admit-requires c κs =
-    let z : sizeOf (its-event (c .before .before .before .before)) ≡ 23 = rw (c .before .before .event .given .1) in
-    omega (arith, has-room (c .before .before .before .before))
+    let case = c .before .before in
+    let z : sizeOf (its-event (case .before .before)) ≡ 23 = rw (case .event .given .1) in
+    omega (arith, has-room (case .before .before))
 
 enum-known-event-2 : tie.Need-enum-known-event-2
 enum-known-event-2 c = search needs
@@ -58,8 +60,9 @@ enum-known-event-2 c = search needs
 put-naming-requires : tie.Need-put-naming-requires
 unfolding sizeOf payload payloadOf
 put-naming-requires c κs =
-    let z : sizeOf (its-event (c .before .before .before .before)) ≡ 14 = rw (c .before .before .event2 .given .1) in
-    omega (arith, has-room (c .before .before .before .before))
+    let case = c .before .before in
+    let z : sizeOf (its-event (case .before .before)) ≡ 14 = rw (case .event2 .given .1) in
+    omega (arith, has-room (case .before .before))
 
 enum-known-event-3 : tie.Need-enum-known-event-3
 enum-known-event-3 c = search needs
@@ -67,8 +70,9 @@ enum-known-event-3 c = search needs
 put-naming-requires-2 : tie.Need-put-naming-requires-2
 unfolding sizeOf payload payloadOf
 put-naming-requires-2 c κs =
-    let z : sizeOf (its-event (c .before .before .before .before)) ≡ 14 = rw (c .before .before .event3 .given .1) in
-    omega (arith, has-room (c .before .before .before .before))
+    let case = c .before .before in
+    let z : sizeOf (its-event (case .before .before)) ≡ 14 = rw (case .event3 .given .1) in
+    omega (arith, has-room (case .before .before))
 
 enum-known-event-4 : tie.Need-enum-known-event-4
 enum-known-event-4 c = search needs
@@ -76,8 +80,9 @@ enum-known-event-4 c = search needs
 put-naming-requires-3 : tie.Need-put-naming-requires-3
 unfolding sizeOf payload payloadOf
 put-naming-requires-3 c κs =
-    let z : sizeOf (its-event (c .before .before .before .before)) ≡ 14 = rw (c .before .before .event4 .given .1) in
-    omega (arith, has-room (c .before .before .before .before))
+    let case = c .before .before in
+    let z : sizeOf (its-event (case .before .before)) ≡ 14 = rw (case .event4 .given .1) in
+    omega (arith, has-room (case .before .before))
 
 enum-known-event-5 : tie.Need-enum-known-event-5
 enum-known-event-5 c = search needs
@@ -85,43 +90,59 @@ enum-known-event-5 c = search needs
 put-head-requires : tie.Need-put-head-requires
 unfolding sizeOf payload payloadOf
 put-head-requires c κs =
-    let z : sizeOf (its-event (c .before .before .before .before)) ≡ 11 = rw (c .before .before .event5 .given .1) in
-    omega (arith, has-room (c .before .before .before .before))
+    let case = c .before .before in
+    let z : sizeOf (its-event (case .before .before)) ≡ 11 = rw (case .event5 .given .1) in
+    omega (arith, has-room (case .before .before))
 
 same-length : tie.Need-same-length
 same-length c = search needs
 
 returns-3 : tie.Need-returns-3
 unfolding recordOf payload payloadOf
-returns-3 c = whole (c .before .before .before .before .before .before .before) _ _ (c .before .before .before .before .before .event .given .1) (c .before .before .put-admit .ensures)
+returns-3 c =
+    let put = c .before .before in
+    let case = put .before .before .before in
+    whole (case .before .before) _ _ (case .event .given .1) (put .put-admit .ensures)
 
 same-length-2 : tie.Need-same-length-2
 same-length-2 c = search needs
 
 returns-4 : tie.Need-returns-4
 unfolding recordOf payload payloadOf
-returns-4 c = whole (c .before .before .before .before .before .before .before) _ _ (c .before .before .before .before .before .event2 .given .1) (c .before .before .put-naming .ensures)
+returns-4 c =
+    let put = c .before .before in
+    let case = put .before .before .before in
+    whole (case .before .before) _ _ (case .event2 .given .1) (put .put-naming .ensures)
 
 same-length-3 : tie.Need-same-length-3
 same-length-3 c = search needs
 
 returns-5 : tie.Need-returns-5
 unfolding recordOf payload payloadOf
-returns-5 c = whole (c .before .before .before .before .before .before .before) _ _ (c .before .before .before .before .before .event3 .given .1) (c .before .before .put-naming2 .ensures)
+returns-5 c =
+    let put = c .before .before in
+    let case = put .before .before .before in
+    whole (case .before .before) _ _ (case .event3 .given .1) (put .put-naming2 .ensures)
 
 same-length-4 : tie.Need-same-length-4
 same-length-4 c = search needs
 
 returns-6 : tie.Need-returns-6
 unfolding recordOf payload payloadOf
-returns-6 c = whole (c .before .before .before .before .before .before .before) _ _ (c .before .before .before .before .before .event4 .given .1) (c .before .before .put-naming3 .ensures)
+returns-6 c =
+    let put = c .before .before in
+    let case = put .before .before .before in
+    whole (case .before .before) _ _ (case .event4 .given .1) (put .put-naming3 .ensures)
 
 same-length-5 : tie.Need-same-length-5
 same-length-5 c = search needs
 
 returns-7 : tie.Need-returns-7
 unfolding recordOf payload payloadOf head
-returns-7 c = whole (c .before .before .before .before .before .before .before) _ _ (c .before .before .before .before .before .event5 .given .1) (c .before .before .put-head .ensures)
+returns-7 c =
+    let put = c .before .before in
+    let case = put .before .before .before in
+    whole (case .before .before) _ _ (case .event5 .given .1) (put .put-head .ensures)
 
 pub write-spec : {M : Type 1} → statement M
 write-spec =
