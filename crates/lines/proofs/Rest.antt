@@ -65,7 +65,7 @@ pub left-few : (last : Bool) (s : List ℕ) → Left last s → length s < 23
 left-few last s (inl e) = omega (arith, ap length e)
 left-few last s (inr w) = waits-few s (w .1)
 
-no-bytes : (s : List ℕ) → length s ≡ 0 → s ≡ []
+pub no-bytes : (s : List ℕ) → length s ≡ 0 → s ≡ []
 no-bytes [] h = refl
 no-bytes (b ∷ bs) h = absurd (omega arith)
 
