@@ -70,7 +70,8 @@ module _ (core : Core) (a b : List ℕ) (early last : Bool) (room : Option ℕ) 
 
       same-read : waitsFor r early ≡ false → (k : Before early last b) → (readSpec (a ++ b) ≡ No r) × (waitsFor r last ≡ false)
       same-read w (inl e) =
-          let n : eqb (r .number) 20 ≡ false = sym (and-true (eqb (r .number) 20)) ∙ ap (λ (t : Bool). eqb (r .number) 20 && not t) (sym e) ∙ w in
+          let n : eqb (r .number) 20 ≡ false =
+          sym (and-true (eqb (r .number) 20)) ∙ ap (λ (t : Bool). eqb (r .number) 20 && not t) (sym e) ∙ w in
           (refusal-behind a b r h n, rw n)
       same-read w (inr e) =
           (ap (λ (x : List ℕ). readSpec (a ++ x)) (e .0) ∙ ap readSpec (append-nil a) ∙ h, ap (waitsFor r) (sym (e .1)) ∙ w)

@@ -37,7 +37,9 @@ use Rattle.lines.proofs.Parts.{any-cut, any-room, parts-same}
 -- tag 1, length 2, and no payload is longer than an admit's 20
 pub waits-few : (s : List ℕ) → waits s ≡ true → length s < 23
 unfolding waits
-waits-few s w = go (or-true (ltb (length s) 3) (known (tag s) && (eqb (lengthSaid s) (payload (tag s)) && ltb (length s) (3 + payload (tag s)))) w)
+waits-few s w =
+    go
+    (or-true (ltb (length s) 3) (known (tag s) && (eqb (lengthSaid s) (payload (tag s)) && ltb (length s) (3 + payload (tag s)))) w)
   where
     go : (ltb (length s) 3 ≡ true)
         ⊎ ((known (tag s) && (eqb (lengthSaid s) (payload (tag s)) && ltb (length s) (3 + payload (tag s)))) ≡ true)
@@ -114,7 +116,8 @@ goes-on core s last room n = any-room core s last room ∙ rw n
 -- a part that was served with room for all, and then what comes behind it
 pub cut-goes-on : (core : Core) (a b : List ℕ) (last : Bool) → serveOf core a false none .stopped ≡ false
     → serveOf core (a ++ b) last none
-    ≡ further (serveOf core a false none) (serveOf (serveOf core a false none .core) (drop (serveOf core a false none .used) a ++ b) last none)
+    ≡ further (serveOf core a false none)
+    (serveOf (serveOf core a false none .core) (drop (serveOf core a false none .used) a ++ b) last none)
 cut-goes-on core a b last n = any-cut core a b last none ∙ rw n
 
 -- what room for all leaves
@@ -205,14 +208,19 @@ module _ (first : Core) (s : List ℕ) (last : Bool) (core : Core) (used : ℕ) 
 
   -- a go that uses nothing is the last one
   pub ahead-done : once .stopped ≡ false → full room ≡ false → once .used ≡ 0
-      → (serveOf first s last none .core ≡ once .core) × (serveOf first s last none .used ≡ used + once .used) × (serveOf first s last none .stopped ≡ false)
+      → (serveOf first s last none .core ≡ once .core)
+      × (serveOf first s last none .used ≡ used + once .used)
+      × (serveOf first s last none .stopped ≡ false)
   ahead-done n some-room unused =
       let h = ahead-next n in
       let l = unused-left core (drop used s) last room some-room unused n in
       let same : used + once .used ≡ used = omega (arith, unused) in
       let e : serveOf (once .core) (drop (used + once .used) s) last none ≡ rests (once .core) =
-      ap (λ (k : ℕ). serveOf (once .core) (drop k s) last none) same ∙ left-rests (once .core) (drop used s) last l in
-      (h .core-is ∙ ap (λ (x : Run). x .core) e, omega (arith, h .used-is, ap (λ (x : Run). x .used) e), h .stops-is ∙ ap (λ (x : Run). x .stopped) e)
+      ap (λ (k : ℕ). serveOf (once .core) (drop k s) last none) same ∙ left-rests (once .core) (drop used s) last l in (
+        h .core-is ∙ ap (λ (x : Run). x .core) e,
+        omega (arith, h .used-is, ap (λ (x : Run). x .used) e),
+        h .stops-is ∙ ap (λ (x : Run). x .stopped) e,
+      )
 
 -- "Empty input writes nothing."
 pub nothing-written : cardLines [] ≡ []

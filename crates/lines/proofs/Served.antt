@@ -24,7 +24,8 @@ use Rattle.records.specs.Encode.{sizeOf}
 use Rattle.lines.specs.declared.serving.Served.{Served}
 use Rattle.text.specs.Text.{over, Put}
 use Rattle.lines.specs.Text.{lineOf, refusalText, longest}
-use Rattle.lines.specs.Serve.{Run, timeOf, changeOf, rests, stops, waitsFor, refuses, behind, full, less, answers, served, serveOf, handed}
+use Rattle.lines.specs.Serve.{Run, timeOf, changeOf, rests, stops, waitsFor, refuses, behind, full, less}
+use Rattle.lines.specs.Serve.{answers, served, serveOf, handed}
 use Rattle.text.proofs.Writing.{sets-append, put-size}
 use Rattle.lines.proofs.Reading.{some-bytes, within}
 
@@ -97,7 +98,8 @@ module _ (core : Core) (s : List ℕ) (last : Bool) (room : Option ℕ) where
       serve-reads some-left some-room
       ∙ ap (answers (λ core′ s′ room′. served (length s) core′ s′ last room′) core s last room) h
 
-  pub serve-event : (e : Event) (a : Answer) → 1 ≤ length s → full room ≡ false → readSpec s ≡ Got e → a ≡ turned core (timeOf e) (changeOf e)
+  pub serve-event : (e : Event) (a : Answer) → 1 ≤ length s → full room ≡ false → readSpec s ≡ Got e
+      → a ≡ turned core (timeOf e) (changeOf e)
       → serveOf core s last room
       ≡ behind (sizeOf e) (lineOf (a .reply)) (serveOf (a .core) (drop (sizeOf e) s) last (less room (length (lineOf (a .reply)))))
   unfolding serveOf
@@ -140,7 +142,8 @@ ending-behind r n line used written next out after p =
     rw (p .stored, p .behind, length-append, sets-append, add-assoc, add-assoc)
 
 -- what the loop of `serve` keeps
-pub record Going (input : List ℕ) (last : Bool) (first : Core) (before : List ℕ) (core : Core) (used written : ℕ) (out : List ℕ) : Type 0 where
+pub record Going (input : List ℕ) (last : Bool) (first : Core) (before : List ℕ)
+    (core : Core) (used written : ℕ) (out : List ℕ) : Type 0 where
   pub valid : ValidCore core
   pub inside : used ≤ length input
   pub room : written ≤ length out

@@ -126,7 +126,8 @@ line-shows (Done r) (Done q) p k e =
     let u : Report → List (List ℕ) = λ x. decimal (x .usable .0) ∷ timerText (x .timer) ∷ [] in
     let h : Report → List (List ℕ) = λ x. holderText (x .run) ∷ decimal (x .usable .0) ∷ timerText (x .timer) ∷ [] in
     let s : fields (decimal (r .time .0) ∷ h r) ≡ fields (decimal (q .time .0) ∷ h q) = cc in
-    let a = next-field (decimal (r .time .0)) (decimal (q .time .0)) (h r) (h q) (plain-decimal (r .time .0)) (plain-decimal (q .time .0)) s in
+    let a = next-field (decimal (r .time .0)) (decimal (q .time .0)) (h r) (h q)
+    (plain-decimal (r .time .0)) (plain-decimal (q .time .0)) s in
     let b = next-field (holderText (r .run)) (holderText (q .run)) (u r) (u q) (plain-holder (r .run)) (plain-holder (q .run)) (a .1) in
     let c = next-field (decimal (r .usable .0)) (decimal (q .usable .0)) (m r) (m q)
     (plain-decimal (r .usable .0)) (plain-decimal (q .usable .0)) (b .1) in

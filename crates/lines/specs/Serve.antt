@@ -8,7 +8,8 @@ use lib.Dec.{ltb, eqb}
 use lib.ListN.{length, drop}
 use Rattle.units.specs.declared.Moment.{Moment}
 use Rattle.turns.specs.declared.Change.{Change}
-use Rattle.turns.specs.declared.Change.the-variants.{Admit as AskAdmit, Wake as AskWake, Block as AskBlock, Remove as AskRemove, Tick as AskTick}
+use Rattle.turns.specs.declared.Change.the-variants.{Admit as AskAdmit, Wake as AskWake, Block as AskBlock}
+use Rattle.turns.specs.declared.Change.the-variants.{Remove as AskRemove, Tick as AskTick}
 use Rattle.turns.specs.declared.Refusal.{Refusal}
 use Rattle.turns.specs.declared.Core.{Core}
 use Rattle.turns.specs.declared.Answer.{Answer}

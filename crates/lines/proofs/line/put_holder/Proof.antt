@@ -23,7 +23,9 @@ same-length : tie.Need-same-length
 same-length c = search needs
 
 returns : tie.Need-returns
-returns c = (put-as (ap (λ (h : Holder). 32 ∷ holderText h) (sym (c .before .before .before .before .enum-told .given .1))) (c .before .before .put-none .ensures .0), c .before .before .put-none .ensures .1)
+returns c =
+    let p = c .before .before .put-none .ensures in
+    (put-as (ap (λ (h : Holder). 32 ∷ holderText h) (sym (c .before .before .before .before .enum-told .given .1))) (p .0), p .1)
 
 number-requires : tie.Need-number-requires
 number-requires c κs = search needs
@@ -38,7 +40,11 @@ same-length-2 : tie.Need-same-length-2
 same-length-2 c = search needs
 
 returns-2 : tie.Need-returns-2
-returns-2 c = (put-as (ap (λ (n : ℕ). 32 ∷ decimal n) (c .before .before .before .number .ensures) ∙ ap (λ (h : Holder). 32 ∷ holderText h) (sym (c .before .before .before .before .before .before .run .given .1))) (c .before .before .put-field .ensures .0), c .before .before .put-field .ensures .1)
+returns-2 c =
+    let p = c .before .before .put-field .ensures in
+    let n = ap (λ (n : ℕ). 32 ∷ decimal n) (c .before .before .before .number .ensures) in
+    let h = ap (λ (h : Holder). 32 ∷ holderText h) (sym (c .before .before .before .before .before .before .run .given .1)) in
+    (put-as (n ∙ h) (p .0), p .1)
 
 pub put-holder-spec : {M : Type 1} → statement M
 put-holder-spec =

@@ -22,13 +22,17 @@ same-length : tie.Need-same-length
 same-length c = search needs
 
 returns : tie.Need-returns
-returns c = (put-as (ap lineOf (sym (c .before .before .before .before .before .reply .given .1))) (c .before .before .put-report .ensures .0), c .before .before .put-report .ensures .1)
+returns c =
+    let p = c .before .before .put-report .ensures in
+    (put-as (ap lineOf (sym (c .before .before .before .before .before .reply .given .1))) (p .0), p .1)
 
 same-length-2 : tie.Need-same-length-2
 same-length-2 c = search needs
 
 returns-2 : tie.Need-returns-2
-returns-2 c = (put-as (ap lineOf (sym (c .before .before .before .before .before .reply2 .given .1))) (c .before .before .put-refusal .ensures .0), c .before .before .put-refusal .ensures .1)
+returns-2 c =
+    let p = c .before .before .put-refusal .ensures in
+    (put-as (ap lineOf (sym (c .before .before .before .before .before .reply2 .given .1))) (p .0), p .1)
 
 pub put-line-spec : {M : Type 1} → statement M
 put-line-spec =

@@ -30,7 +30,9 @@ returns c =
     let o = c .args .out .now in
     let at = c .args .at in
     let two : at + 1 + 1 ≡ at + 2 = omega arith in
-    (put-first o at 32 (subst (λ (n : ℕ). Put (set o at 32) (at + 1) (45 ∷ []) (set (set o at 32) (at + 1) 45) n) two (put-byte (set o at 32) (at + 1) 45)), omega arith)
+    let o₁ = set o at 32 in
+    let p = subst (λ (n : ℕ). Put o₁ (at + 1) (45 ∷ []) (set o₁ (at + 1) 45) n) two (put-byte o₁ (at + 1) 45) in
+    (put-first o at 32 p, omega arith)
 
 pub put-none-spec : {M : Type 1} → statement M
 put-none-spec =

@@ -1,14 +1,54 @@
--- `put_report` puts the line of an accepted call. Assumes nothing.
+-- `put_report` puts the line of an accepted call. Each place of the program that facts are taken from is named once. Assumes nothing.
 use Prim.Native.Nat.{ℕ}
-use mathlib.Core.List.{_∷_}
-use mathlib.Core.Path.{_∙_, ap}
+use mathlib.Core.List.{List, _∷_}
+use mathlib.Core.Path.{_≡_, _∙_, ap}
 use native.Mathlib.Omega.{arith}
-use lib.ListN.{length-set}
+use lib.ListN.{length, length-set}
 use borrow.Author.Needs.{needs}
 use Rattle.text.specs.Text.{decimal}
 use Rattle.text.proofs.Writing.{put-size, put-letters, put-two, put-as}
 use Rattle.lines.proofs.line.put_report.Statement.{statement}
 use Rattle.lines.proofs.line.put_report.Tie as tie
+
+-- the places behind each of the fields: the time, who runs, its usable ticks, the timer; and how long `out` is there
+abbrev F : Type 0
+F = tie.After-put-field
+
+abbrev out : F → List ℕ
+out c = c .before .before .before .before .args .out .now
+
+abbrev at : F → ℕ
+at c = c .before .before .before .before .args .at
+
+time-size : (c : F) → length (c .put-field .last .0) ≡ length (out c)
+time-size c = put-size (put-letters (out c) (at c) 111 107 (c .put-field .ensures .0))
+
+abbrev H : Type 0
+H = tie.After-put-holder
+
+abbrev time : H → F
+time c = c .before .before .before .before
+
+holder-size : (c : H) → length (c .put-holder .last .0) ≡ length (out (time c))
+holder-size c = put-size (c .put-holder .ensures .0) ∙ time-size (time c)
+
+abbrev U : Type 0
+U = tie.After-put-field2
+
+abbrev holder : U → H
+holder c = c .before .before .before .before .before
+
+usable-size : (c : U) → length (c .put-field2 .last .0) ≡ length (out (time (holder c)))
+usable-size c = put-size (c .put-field2 .ensures .0) ∙ holder-size (holder c)
+
+abbrev M : Type 0
+M = tie.After-put-timer
+
+abbrev usable : M → U
+usable c = c .before .before .before .before
+
+timer-size : (c : M) → length (c .put-timer .last .0) ≡ length (out (time (holder (usable c))))
+timer-size c = put-size (c .put-timer .ensures .0) ∙ usable-size (usable c)
 
 slice-write-out : tie.Need-slice-write-out
 slice-write-out c = search needs
@@ -29,9 +69,7 @@ put-field-requires : tie.Need-put-field-requires
 put-field-requires c κs = simp length-set (omega arith)
 
 put-holder-requires : tie.Need-put-holder-requires
-put-holder-requires c κs =
-    let t = c .before .before .before .put-field .ensures in
-    omega (arith, t .1, put-size (put-letters (c .before .before .before .before .before .before .before .args .out .now) (c .before .before .before .before .before .before .before .args .at) 111 107 (t .0)))
+put-holder-requires c κs = let f = c .before .before .before in omega (arith, f .put-field .ensures .1, time-size f)
 
 ticks-requires-2 : tie.Need-ticks-requires-2
 ticks-requires-2 c κs = search needs
@@ -41,44 +79,51 @@ cast-put-field c = search needs
 
 put-field-requires-2 : tie.Need-put-field-requires-2
 put-field-requires-2 c κs =
-    let t = c .before .before .before .before .before .before .before .before .put-field .ensures in
-    let h = c .before .before .before .before .put-holder .ensures in
-    omega (arith, t .1, h .1, put-size (h .0), put-size (put-letters (c .before .before .before .before .before .before .before .before .before .before .before .before .args .out .now) (c .before .before .before .before .before .before .before .before .before .before .before .before .args .at) 111 107 (t .0)))
+    let h = c .before .before .before .before in
+    omega (arith, time h .put-field .ensures .1, h .put-holder .ensures .1, holder-size h)
 
 put-timer-requires : tie.Need-put-timer-requires
 put-timer-requires c κs =
-    let t = c .before .before .before .before .before .before .before .before .before .before .before .before .put-field .ensures in
-    let h = c .before .before .before .before .before .before .before .before .put-holder .ensures in
-    let u = c .before .before .before .put-field2 .ensures in
-    omega (arith, t .1, h .1, u .1, put-size (u .0), put-size (h .0), put-size (put-letters (c .before .before .before .before .before .before .before .before .before .before .before .before .before .before .before .before .args .out .now) (c .before .before .before .before .before .before .before .before .before .before .before .before .before .before .before .before .args .at) 111 107 (t .0)))
+    let u = c .before .before .before in
+    let h = holder u in
+    omega (arith, time h .put-field .ensures .1, h .put-holder .ensures .1, u .put-field2 .ensures .1, usable-size u)
 
 put-end-requires : tie.Need-put-end-requires
 put-end-requires c κs =
-    let t = c .before .before .before .before .before .before .before .before .before .before .before .before .before .before .before .before .put-field .ensures in
-    let h = c .before .before .before .before .before .before .before .before .before .before .before .before .put-holder .ensures in
-    let u = c .before .before .before .before .before .before .before .put-field2 .ensures in
-    let m = c .before .before .before .put-timer .ensures in
-    omega (arith, t .1, h .1, u .1, m .1, put-size (m .0), put-size (u .0), put-size (h .0), put-size (put-letters (c .before .before .before .before .before .before .before .before .before .before .before .before .before .before .before .before .before .before .before .before .args .out .now) (c .before .before .before .before .before .before .before .before .before .before .before .before .before .before .before .before .before .before .before .before .args .at) 111 107 (t .0)))
+    let m = c .before .before .before in
+    let u = usable m in
+    let h = holder u in
+    omega (
+      arith,
+      time h .put-field .ensures .1,
+      h .put-holder .ensures .1,
+      u .put-field2 .ensures .1,
+      m .put-timer .ensures .1,
+      timer-size m,
+    )
 
 same-length : tie.Need-same-length
-same-length c =
-    let t = c .before .before .before .before .before .before .before .before .before .before .before .before .before .before .before .before .before .before .before .put-field .ensures in
-    put-size (c .before .before .put-end .ensures .0) ∙ put-size (c .before .before .before .before .before .before .put-timer .ensures .0) ∙ put-size (c .before .before .before .before .before .before .before .before .before .before .put-field2 .ensures .0)
-    ∙ put-size (c .before .before .before .before .before .before .before .before .before .before .before .before .before .before .before .put-holder .ensures .0) ∙ put-size (put-letters (c .before .before .before .before .before .before .before .before .before .before .before .before .before .before .before .before .before .before .before .before .before .before .before .args .out .now) (c .before .before .before .before .before .before .before .before .before .before .before .before .before .before .before .before .before .before .before .before .before .before .before .args .at) 111 107 (t .0))
+same-length c = put-size (c .before .before .put-end .ensures .0) ∙ timer-size (c .before .before .before .before .before .before)
 
 returns : tie.Need-returns
 returns c =
-    let t = c .before .before .before .before .before .before .before .before .before .before .before .before .before .before .before .before .before .before .before .put-field .ensures in
-    let h = c .before .before .before .before .before .before .before .before .before .before .before .before .before .before .before .put-holder .ensures in
-    let u = c .before .before .before .before .before .before .before .before .before .before .put-field2 .ensures in
-    let m = c .before .before .before .before .before .before .put-timer .ensures in
-    let e = c .before .before .put-end .ensures in (
-      put-letters (c .before .before .before .before .before .before .before .before .before .before .before .before .before .before .before .before .before .before .before .before .before .before .before .args .out .now) (c .before .before .before .before .before .before .before .before .before .before .before .before .before .before .before .before .before .before .before .before .before .before .before .args .at) 111 107
-          (put-two (put-as (ap (λ (n : ℕ). 32 ∷ decimal n) (c .before .before .before .before .before .before .before .before .before .before .before .before .before .before .before .before .before .before .before .before .ticks .ensures)) (t .0))
-          (put-two (h .0)
-          (put-two (put-as (ap (λ (n : ℕ). 32 ∷ decimal n) (c .before .before .before .before .before .before .before .before .before .before .before .ticks2 .ensures)) (u .0))
-          (put-two (m .0) (e .0))))),
-      omega (arith, t .1, h .1, u .1, m .1, e .1),
+    let e = c .before .before .put-end .ensures in
+    let m = c .before .before .before .before .before .before in
+    let u = usable m in
+    let h = holder u in
+    let f = time h in
+    let time-put = put-as (ap (λ (n : ℕ). 32 ∷ decimal n) (f .before .ticks .ensures)) (f .put-field .ensures .0) in
+    let usable-put = put-as (ap (λ (n : ℕ). 32 ∷ decimal n) (u .before .ticks2 .ensures)) (u .put-field2 .ensures .0) in (
+      put-letters (out f) (at f) 111 107
+          (put-two time-put (put-two (h .put-holder .ensures .0) (put-two usable-put (put-two (m .put-timer .ensures .0) (e .0))))),
+      omega (
+        arith,
+        f .put-field .ensures .1,
+        h .put-holder .ensures .1,
+        u .put-field2 .ensures .1,
+        m .put-timer .ensures .1,
+        e .1,
+      ),
     )
 
 pub put-report-spec : {M : Type 1} → statement M

@@ -23,7 +23,9 @@ same-length : tie.Need-same-length
 same-length c = search needs
 
 returns : tie.Need-returns
-returns c = (put-as (ap (λ (t : Timer). 32 ∷ timerText t) (sym (c .before .before .before .before .enum-told .given .1))) (c .before .before .put-none .ensures .0), c .before .before .put-none .ensures .1)
+returns c =
+    let p = c .before .before .put-none .ensures in
+    (put-as (ap (λ (t : Timer). 32 ∷ timerText t) (sym (c .before .before .before .before .enum-told .given .1))) (p .0), p .1)
 
 ticks-requires : tie.Need-ticks-requires
 ticks-requires c κs = search needs
@@ -35,7 +37,11 @@ same-length-2 : tie.Need-same-length-2
 same-length-2 c = search needs
 
 returns-2 : tie.Need-returns-2
-returns-2 c = (put-as (ap (λ (n : ℕ). 32 ∷ decimal n) (c .before .before .before .ticks .ensures) ∙ ap (λ (t : Timer). 32 ∷ timerText t) (sym (c .before .before .before .before .before .before .timer .given .1))) (c .before .before .put-field .ensures .0), c .before .before .put-field .ensures .1)
+returns-2 c =
+    let p = c .before .before .put-field .ensures in
+    let n = ap (λ (n : ℕ). 32 ∷ decimal n) (c .before .before .before .ticks .ensures) in
+    let t = ap (λ (t : Timer). 32 ∷ timerText t) (sym (c .before .before .before .before .before .before .timer .given .1)) in
+    (put-as (n ∙ t) (p .0), p .1)
 
 pub put-timer-spec : {M : Type 1} → statement M
 put-timer-spec =

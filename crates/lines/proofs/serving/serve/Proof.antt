@@ -187,7 +187,9 @@ put-line-requires : tie.Need-put-line-requires Inv-loop μ-loop
 put-line-requires c κs = omega (arith, some-room (read-no (c .before .before .before .before)))
 
 same-length-3 : tie.Need-same-length-3 Inv-loop μ-loop
-same-length-3 c = put-size (c .before .before .put-line .ensures .0) ∙ going (again (read-no (c .before .before .before .before .before .before .before))) .size
+same-length-3 c =
+    let n = c .before .before .before .before .before .before .before in
+    put-size (c .before .before .put-line .ensures .0) ∙ going (again (read-no n)) .size
 
 returns-3 : tie.Need-returns-3 Inv-loop μ-loop
 returns-3 c =
