@@ -1,21 +1,19 @@
 -- For every input: the program makes the calls of its records, writes the lines of their replies and no more, and demand 3 holds of these
 -- calls. Assumes nothing.
 use Prim.Native.Nat.{ℕ}
-use mathlib.Core.Path.{_≡_, refl, ap, sym, _∙_, subst}
+use mathlib.Core.Path.{_≡_, refl, ap, _∙_}
 use mathlib.Core.Bool.{Bool, true, false, cond, _&&_}
 use mathlib.Core.Option.{Option, none, some}
 use mathlib.Core.List.{List, [], _∷_, _++_, map}
 use lib.Dec.{eqb}
 use Rattle.rules.specs.Turn.{Reply as Said}
-use Rattle.rules.specs.Meaning.{Meaning}
 use Rattle.turns.specs.declared.Refusal.{Refusal}
-use Rattle.turns.specs.declared.Core.{Core}
-use Rattle.turns.specs.Written.{card}
 use Rattle.turns.specs.Calls.{turned, paperReply}
-use Rattle.turns.specs.State.{Asking, made, callsOf}
-use Rattle.turns.proofs.Made.{Promised, promised}
+use Rattle.turns.specs.State.{Asking, made}
+use Rattle.turns.specs.Promised.{exchanges}
+use Rattle.turns.proofs.Promised.{promised}
 use Rattle.lines.specs.Serve.{serveOf, cardLines}
-use Rattle.lines.specs.Asked.{asked, replies, ruled, linesOf, lastLine}
+use Rattle.lines.specs.Asked.{asked, replies, linesOf, lastLine}
 use Rattle.lines.specs.Answers.{newlines, Answers}
 use Rattle.lines.proofs.Rest.{nothing-written}
 use Rattle.lines.proofs.Asked.{stops-at}
@@ -32,13 +30,11 @@ all-now (some r) = go (eqb (r .number) 20)
     go true = refl
     go false = refl
 
--- the replies are the rules', each after the calls before it
-pub replies-ruled : (calls : List Asking) → map paperReply (replies calls) ≡ ruled (callsOf calls)
-replies-ruled [] = refl
-replies-ruled (a ∷ before) =
-    let p = promised (made before) (record { calls = before; made-by = refl }) in
-    ap (λ (l : List Said). paperReply ((turned (made before) (a .now) (a .change)) .reply) ∷ l) (replies-ruled before)
-    ∙ ap (λ (r : Said). r ∷ ruled (callsOf before)) (p .replies (a .now) (a .change))
+-- each reply stands in the exchange of its call
+replies-told : (calls : List Asking) → map paperReply (replies calls) ≡ map (λ x. x .reply) (exchanges calls)
+replies-told [] = refl
+replies-told (a ∷ before) =
+    ap (λ (l : List Said). paperReply ((turned (made before) (a .now) (a .change)) .reply) ∷ l) (replies-told before)
 
 -- the whole input
 pub answers : (input : List ℕ) → Answers input
@@ -46,22 +42,17 @@ answers input =
     record {
       input-is = asked-bytes [] input;
       core-is = all .core-is;
-      shows = p .shows;
       lines-are = lines;
       a-line-each = ap newlines lines ∙ a-line-each (asked input);
       empty-none = λ e. ap cardLines e ∙ nothing-written;
       in-parts = λ ps e. parts-same ps (made []) [] ∙ ap (λ (s : List ℕ). serveOf (made []) s true none) e;
       stops-at = stops-at [] input;
-      replies-are = replies-ruled (asked input .calls);
-      demand3 = p .demand3;
-      meaning = subst (λ (c : Core). Meaning (card c)) (sym (all .core-is)) (p .meaning);
+      replies-are = replies-told (asked input .calls);
+      promised = promised (asked input .calls);
     }
   where
     all : AllAnswered [] input true
     all = all-answered [] input true
-
-    p : Promised (made (asked input .calls)) (asked input .calls)
-    p = promised (made (asked input .calls)) (record { calls = asked input .calls; made-by = refl })
 
     lines : cardLines input ≡ linesOf (replies (asked input .calls)) ++ lastLine (asked input .refusal)
     lines =

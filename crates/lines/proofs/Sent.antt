@@ -26,7 +26,7 @@ use Rattle.records.specs.declared.answers.Read.the-variants.{Event as Got, No}
 use Rattle.records.specs.Bytes.{AreBytes}
 use Rattle.records.specs.Answer.{readSpec}
 use Rattle.records.specs.Encode.{sizeOf, recordOf, InRange}
-use Rattle.records.specs.Encode.{callOf as callSaid}
+use Rattle.records.specs.Answer.{callOf as callSaid}
 use Rattle.records.proofs.Again.{read-again}
 use Rattle.records.proofs.Back.{event-reads-back}
 use Rattle.records.proofs.Written.{length-record}

@@ -1,5 +1,6 @@
 -- What the bytes sent to the program and the lines that it writes say of the calls: the core is made by the calls of the records, the
--- lines are those of their replies, and demand 3 holds of these calls. Proved of every input in proofs/Answers. Assumes nothing.
+-- lines are those of their replies, and all that is promised of calls, demand 3 among it, holds of these. Proved of every input in
+-- proofs/Answers. Assumes nothing.
 use Prim.Native.Nat.{ℕ}
 use mathlib.Core.Path.{_≡_}
 use mathlib.Core.Bool.{true}
@@ -7,17 +8,14 @@ use mathlib.Core.List.{List, [], _∷_, _++_, map}
 use mathlib.Core.Option.{none, some}
 use lib.Dec.{eqb}
 use Rattle.rules.specs.Lists.{count, Among}
-use Rattle.rules.specs.History.{after}
-use Rattle.rules.specs.Meaning.{Meaning}
-use Rattle.rules.specs.Demand3.{Demand3}
 use Rattle.turns.specs.declared.Refusal.{Refusal}
-use Rattle.turns.specs.Written.{card}
 use Rattle.turns.specs.Calls.{paperReply}
-use Rattle.turns.specs.State.{made, callsOf}
+use Rattle.turns.specs.State.{made}
+use Rattle.turns.specs.Promised.{exchanges, Promised}
 use Rattle.records.specs.Bytes.{AreBytes}
 use Rattle.lines.specs.Serve.{serveOf, cardLines}
 use Rattle.lines.specs.Parts.{Part, onePiece, inParts}
-use Rattle.lines.specs.Asked.{asked, sent, Ended, records, replies, ruled, linesOf, lastLine}
+use Rattle.lines.specs.Asked.{asked, sent, Ended, records, replies, linesOf, lastLine}
 
 abbrev pub newlines : List ℕ → ℕ
 newlines text = count (eqb 10) text
@@ -31,9 +29,8 @@ stopsAt =
 pub record Answers (input : List ℕ) : Type 0 where
   -- where they are bytes, they are the records of the calls, in their order, and then what reading ended at
   pub input-is : AreBytes input → (rest : List ℕ) × (input ≡ sent (asked input .calls) ++ rest) × Ended rest (asked input .refusal)
-  -- the calls of the records make the core, and it shows the card that the rules make of the same calls
+  -- the calls of the records make the core
   pub core-is : serveOf (made []) input true none .core ≡ made (asked input .calls)
-  pub shows : card (made (asked input .calls)) ≡ after (callsOf (asked input .calls))
   -- all that is written: the lines of the replies, in the order of the records, then the line of the refusal
   pub lines-are : cardLines input ≡ linesOf (replies (asked input .calls)) ++ lastLine (asked input .refusal)
   pub a-line-each : newlines (cardLines input) ≡ records (asked input)
@@ -41,8 +38,6 @@ pub record Answers (input : List ℕ) : Type 0 where
   -- and the same in whatever parts the input comes, with whatever room for lines
   pub in-parts : (ps : List Part) → onePiece ps ≡ input → inParts (made []) [] ps ≡ serveOf (made []) input true none
   pub stops-at : (r : Refusal) → asked input .refusal ≡ some r → Among r stopsAt
-  -- these replies are the rules', number and values, each after the calls before it
-  pub replies-are : map paperReply (replies (asked input .calls)) ≡ ruled (callsOf (asked input .calls))
-  -- so demand 3 holds of what the bytes and the lines show, and the card means what it should
-  pub demand3 : Demand3 (callsOf (asked input .calls))
-  pub meaning : Meaning (card (serveOf (made []) input true none .core))
+  -- these replies are those that demand 3 is told by, and all that a host may rely on holds of these calls
+  pub replies-are : map paperReply (replies (asked input .calls)) ≡ map (λ x. x .reply) (exchanges (asked input .calls))
+  pub promised : Promised (asked input .calls)

@@ -7,9 +7,6 @@ use mathlib.Core.List.{List, [], _∷_, _++_}
 use mathlib.Core.Option.{Option, none, some}
 use lib.Dec.{eqb}
 use lib.ListN.{length, drop}
-use Rattle.rules.specs.Turn.{Call, turn}
-use Rattle.rules.specs.Turn.{Reply as Said}
-use Rattle.rules.specs.History.{after}
 use Rattle.turns.specs.declared.Refusal.{Refusal}
 use Rattle.turns.specs.declared.Reply.{Reply}
 use Rattle.turns.specs.Calls.{callOf, turned}
@@ -75,11 +72,6 @@ records a = length (a .calls) + refusedRecords (a .refusal)
 abbrev pub replies : List Asking → List Reply
 replies [] = []
 replies (a ∷ before) = (turned (made before) (a .now) (a .change)) .reply ∷ replies before
-
--- what the rules reply to each call, from the card after the calls before it
-abbrev pub ruled : List Call → List Said
-ruled [] = []
-ruled (call ∷ before) = (turn (after before) call) .reply ∷ ruled before
 
 -- the lines of the replies, in the order of the calls
 abbrev pub linesOf : List Reply → List ℕ
