@@ -13,7 +13,8 @@ use borrow.Author.Tests.{eqb-true, eqb-false}
 use Rattle.rules.proofs.Tests.{no-some}
 use Rattle.turns.specs.declared.Refusal.{Refusal}
 use Rattle.turns.specs.Calls.{turned}
-use Rattle.turns.specs.State.{Asking, made}
+use Rattle.turns.specs.declared.Core.{Core}
+use Rattle.turns.specs.State.{Asking, made, ValidCore}
 use Rattle.records.specs.declared.answers.Event.{Event}
 use Rattle.records.specs.declared.answers.Read.{Read}
 use Rattle.records.specs.declared.answers.Read.the-variants.{Event as Got, No}
@@ -141,6 +142,12 @@ serves (suc k) before s last room few =
 pub answered : (before : List Asking) (s : List ℕ) (last : Bool) (room : Option ℕ)
     → Answered before s last (serveOf (made before) s last room)
 answered before s last room = serves (length s) before s last room (omega arith)
+
+-- the same of any core that `serve` may be handed
+pub serve-answered : (core : Core) (v : ValidCore core) (s : List ℕ) (last : Bool) (room : Option ℕ)
+    → Answered (v .calls) s last (serveOf core s last room)
+serve-answered core v s last room =
+    subst (λ (c : Core). Answered (v .calls) s last (serveOf c s last room)) (sym (v .made-by)) (answered (v .calls) s last room)
 
 -- where serving with room for all left nothing, or bytes that wait, all calls were made
 module _ (calls : List Asking) (rest : List ℕ) (last : Bool) where
