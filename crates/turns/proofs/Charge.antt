@@ -34,8 +34,10 @@ last-set f (e ∷ g ∷ q) h =
 
 -- the two arrays of a queue whose last entry was changed
 module _ (f : Entry → Entry) (q : List Entry) (h : 0 < length q) (g : length q ≤ 8) where
-  laid-last : {B : Type 0} (h′ : Entry → B) (z : B) → laid 8 h′ z (toLast f q) ≡ set (laid 8 h′ z q) (length q - 1) (h′ (f (getD q (length q - 1) noEntry)))
-  laid-last h′ z = ap (laid 8 h′ z) (last-set f q h) ∙ sym (laid-set h′ z 8 q (length q - 1) (f (getD q (length q - 1) noEntry)) (omega arith) g)
+  laid-last : {B : Type 0} (h′ : Entry → B) (z : B)
+      → laid 8 h′ z (toLast f q) ≡ set (laid 8 h′ z q) (length q - 1) (h′ (f (getD q (length q - 1) noEntry)))
+  laid-last h′ z = ap (laid 8 h′ z) (last-set f q h)
+      ∙ sym (laid-set h′ z 8 q (length q - 1) (f (getD q (length q - 1) noEntry)) (omega arith) g)
 
   last-ticks : (getD (laid 8 amountOf (amount 0) q) (length q - 1) (amount 0)) .0 ≡ (getD q (length q - 1) noEntry) .amount
   last-ticks = ap (λ (a : Amount). a .0) (laid-get amountOf (amount 0) 8 q (length q - 1) noEntry (amount 0) (omega arith) g)
@@ -74,11 +76,14 @@ module _ (last d : ℕ) (v : Tenant) (few : length (v .pending) ≤ 8) (fits : l
   unfolding written
   joined-same h =
       same-queue v (laid 8 dueOf (moment never) q) (laid 8 dueOf (moment never) (toLast f q))
-      (set (laid 8 amountOf (amount 0) q) n (amount ((getD (laid 8 amountOf (amount 0) q) n (amount 0)) .0 + d))) (laid 8 amountOf (amount 0) (toLast f q))
+      (set (laid 8 amountOf (amount 0) q) n (amount ((getD (laid 8 amountOf (amount 0) q) n (amount 0)) .0 + d)))
+      (laid 8 amountOf (amount 0) (toLast f q))
       (length q) (length (toLast f q))
-      (sym (laid-last f q h few dueOf (moment never) ∙ ap (set (laid 8 dueOf (moment never) q) n) (last-due f q h few) ∙ set-getD (laid 8 dueOf
+      (sym (laid-last f q h few dueOf (moment never) ∙ ap (set (laid 8 dueOf (moment never) q) n) (last-due f q h few)
+      ∙ set-getD (laid 8 dueOf
       (moment never) q) n (moment 0)))
-      (ap (λ (m : ℕ). set (laid 8 amountOf (amount 0) q) n (amount (m + d))) (last-ticks f q h few) ∙ sym (laid-last f q h few amountOf (amount 0)))
+      (ap (λ (m : ℕ). set (laid 8 amountOf (amount 0) q) n (amount (m + d))) (last-ticks f q h few)
+      ∙ sym (laid-last f q h few amountOf (amount 0)))
       (sym (same-length f q))
     where
       q : List Entry
@@ -95,11 +100,14 @@ module _ (last d : ℕ) (v : Tenant) (few : length (v .pending) ≤ 8) (fits : l
       ≡ withQueue v (toLast (λ e. record { due = last + v .terms .period; amount = e .amount + d }) (v .pending))
   unfolding written
   folded-same h =
-      same-queue v (set (laid 8 dueOf (moment never) q) n (later (moment last) (amount (v .terms .period)))) (laid 8 dueOf (moment never) (toLast f q))
-      (set (laid 8 amountOf (amount 0) q) n (amount ((getD (laid 8 amountOf (amount 0) q) n (amount 0)) .0 + d))) (laid 8 amountOf (amount 0) (toLast f q))
+      same-queue v (set (laid 8 dueOf (moment never) q) n (later (moment last) (amount (v .terms .period))))
+      (laid 8 dueOf (moment never) (toLast f q))
+      (set (laid 8 amountOf (amount 0) q) n (amount ((getD (laid 8 amountOf (amount 0) q) n (amount 0)) .0 + d)))
+      (laid 8 amountOf (amount 0) (toLast f q))
       (length q) (length (toLast f q))
       (ap (set (laid 8 dueOf (moment never) q) n) due-fits ∙ sym (laid-last f q h few dueOf (moment never)))
-      (ap (λ (m : ℕ). set (laid 8 amountOf (amount 0) q) n (amount (m + d))) (last-ticks f q h few) ∙ sym (laid-last f q h few amountOf (amount 0)))
+      (ap (λ (m : ℕ). set (laid 8 amountOf (amount 0) q) n (amount (m + d))) (last-ticks f q h few)
+      ∙ sym (laid-last f q h few amountOf (amount 0)))
       (sym (same-length f q))
     where
       q : List Entry
@@ -116,7 +124,8 @@ module _ (last d : ℕ) (v : Tenant) (few : length (v .pending) ≤ 8) (fits : l
       ≡ withQueue v (v .pending ++ record { due = last + v .terms .period; amount = d } ∷ [])
   unfolding written
   appended-same h =
-      same-queue v (set (laid 8 dueOf (moment never) q) (length q) (later (moment last) (amount (v .terms .period)))) (laid 8 dueOf (moment never)
+      same-queue v (set (laid 8 dueOf (moment never) q) (length q) (later (moment last) (amount (v .terms .period))))
+      (laid 8 dueOf (moment never)
       (q ++ e ∷ []))
       (set (laid 8 amountOf (amount 0) q) (length q) (amount d)) (laid 8 amountOf (amount 0) (q ++ e ∷ []))
       (length q + 1) (length (q ++ e ∷ []))
@@ -163,9 +172,11 @@ module _ (last d : ℕ) (v : Tenant) (few : length (v .pending) ≤ 8) (fits : l
           (appendedOf (written v) (amount d) (later (moment last) ((written v) .period))))
           ≡ withQueue v
           (cond b (toLast (λ e. record { due = e .due; amount = e .amount + d }) (v .pending))
-          (cond (not b && leb 8 (length (v .pending))) (toLast (λ e. record { due = last + v .terms .period; amount = e .amount + d }) (v .pending))
+          (cond (not b && leb 8 (length (v .pending)))
+          (toLast (λ e. record { due = last + v .terms .period; amount = e .amount + d }) (v .pending))
           (v .pending ++ record { due = last + v .terms .period; amount = d } ∷ [])))
-      go true e = rw (joins-same last v ∙ e) (joined-same (waits-some (v .pending) (and-true (eqb (v .ended) last) (waiting (v .pending)) e .1)))
+      go true e = rw (joins-same last v ∙ e)
+          (joined-same (waits-some (v .pending) (and-true (eqb (v .ended) last) (waiting (v .pending)) e .1)))
       go false e = rw (joins-same last v ∙ e, count-written, period-written) (full (leb 8 (length (v .pending))) refl)
 
   usable-same : (now : ℕ) → usedAs (withQueue v (posted last d v)) (amount (v .usable - d)) (moment now)
@@ -177,12 +188,14 @@ module _ (last d : ℕ) (v : Tenant) (few : length (v .pending) ≤ 8) (fits : l
   unfolding written
   usable-is = refl
 
-  pub charged-same : (now : ℕ) → last ≤ now → d ≡ now - last → chargedOf (written v) (moment last) (moment now) ≡ written (charged last now v)
+  pub charged-same : (now : ℕ) → last ≤ now → d ≡ now - last
+      → chargedOf (written v) (moment last) (moment now) ≡ written (charged last now v)
   unfolding chargedOf charged postedOf written
   charged-same now h e = go (eqb last now) refl
     where
       go : (b : Bool) → eqb last now ≡ b
-          → cond b (written v) (usedAs (postedOf (written v) (amount (now - last)) (moment last)) (amount ((written v) .usable .0 - (now - last))) (moment now))
+          → cond b (written v) (usedAs (postedOf (written v) (amount (now - last)) (moment last))
+          (amount ((written v) .usable .0 - (now - last))) (moment now))
           ≡ written (cond (eqb (now - last) 0) v (record {
             terms = v .terms;
             runnable = v .runnable;

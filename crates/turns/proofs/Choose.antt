@@ -69,16 +69,20 @@ returns-all : (test : Tenant → Bool) (vs : List Tenant) → All Calm vs → Al
 returns-all test [] h = tt
 returns-all test (v ∷ vs) h = go (test v) (returns-all test vs (h .1))
   where
-    go : (b : Bool) → All (λ t. t ≤ never) (returns (keep test vs)) → All (λ t. t ≤ never) (returns (cond b (v ∷ keep test vs) (keep test vs)))
-    go true rec = append-all (λ t. t ≤ never) (map (λ e. e .due) (v .pending)) (returns (keep test vs)) (dues-all (v .pending) (h .0 .near)) rec
+    go : (b : Bool) → All (λ t. t ≤ never) (returns (keep test vs))
+        → All (λ t. t ≤ never) (returns (cond b (v ∷ keep test vs) (keep test vs)))
+    go true rec = append-all (λ t. t ≤ never) (map (λ e. e .due) (v .pending)) (returns (keep test vs))
+        (dues-all (v .pending) (h .0 .near)) rec
     go false rec = rec
 
 -- one tenant more in the search for the earliest return
 early-one : (test : Tenant → Bool) (v : Tenant) (vs : List Tenant) → All Calm (v ∷ vs)
-    → timerOf (earliest (returns (keep test (v ∷ vs)))) ≡ min (cond (test v) (front (v .pending)) never) (timerOf (earliest (returns (keep test vs))))
+    → timerOf (earliest (returns (keep test (v ∷ vs))))
+    ≡ min (cond (test v) (front (v .pending)) never) (timerOf (earliest (returns (keep test vs))))
 early-one test v vs h = go (test v)
   where
-    go : (b : Bool) → timerOf (earliest (returns (cond b (v ∷ keep test vs) (keep test vs)))) ≡ min (cond b (front (v .pending)) never) (timerOf
+    go : (b : Bool) → timerOf (earliest (returns (cond b (v ∷ keep test vs) (keep test vs))))
+        ≡ min (cond b (front (v .pending)) never) (timerOf
         (earliest (returns (keep test vs))))
     go true =
         omega (
@@ -101,25 +105,30 @@ urgent-all P test (v ∷ vs) w h e = go (test v) e (λ u. urgent-all P test vs u
 
     inner : (o : Option Tenant) → ((u : Tenant) → o ≡ some u → P (u .terms)) → some (better v o) ≡ some w → P (w .terms)
     inner none rec f = let g : v ≡ w = cc in subst (λ (x : Tenant). P (x .terms)) g (h .0)
-    inner (some u) rec f = let g : cond (moreUrgent (u .terms) (v .terms)) u v ≡ w = cc in pick (moreUrgent (u .terms) (v .terms)) u g (rec u refl)
+    inner (some u) rec f = let g : cond (moreUrgent (u .terms) (v .terms)) u v ≡ w = cc in
+        pick (moreUrgent (u .terms) (v .terms)) u g (rec u refl)
 
-    go : (b : Bool) → mostUrgent (cond b (v ∷ keep test vs) (keep test vs)) ≡ some w → ((u : Tenant) → mostUrgent (keep test vs) ≡ some u → P
+    go : (b : Bool) → mostUrgent (cond b (v ∷ keep test vs) (keep test vs)) ≡ some w
+        → ((u : Tenant) → mostUrgent (keep test vs) ≡ some u → P
         (u .terms)) → P (w .terms)
     go true f rec = inner (mostUrgent (keep test vs)) rec f
     go false f rec = rec w f
 
 -- the first one, ready, is chosen
-first-chosen : (v : Tenant) (vs : List Tenant) → All (λ e. moreUrgent (v .terms) e ≡ true) (termsOf vs) → better v (mostUrgent (keep ready vs)) ≡ v
+first-chosen : (v : Tenant) (vs : List Tenant) → All (λ e. moreUrgent (v .terms) e ≡ true) (termsOf vs)
+    → better v (mostUrgent (keep ready vs)) ≡ v
 first-chosen v vs h = go (mostUrgent (keep ready vs)) refl
   where
     go : (o : Option Tenant) → mostUrgent (keep ready vs) ≡ o → better v o ≡ v
     go none e = refl
     go (some w) e =
-        let f : moreUrgent (w .terms) (v .terms) ≡ false = asymmetric (v .terms) (w .terms) (urgent-all (λ d. moreUrgent (v .terms) d ≡ true) ready vs w h e) in
+        let f : moreUrgent (w .terms) (v .terms) ≡ false =
+        asymmetric (v .terms) (w .terms) (urgent-all (λ d. moreUrgent (v .terms) d ≡ true) ready vs w h e) in
         rw f
 
 -- and nobody runnable is more urgent than it
-none-before : (v : Tenant) (vs : List Tenant) → All (λ e. moreUrgent (v .terms) e ≡ true) (termsOf vs) → keep (λ w. w .runnable && moreUrgent
+none-before : (v : Tenant) (vs : List Tenant) → All (λ e. moreUrgent (v .terms) e ≡ true) (termsOf vs)
+    → keep (λ w. w .runnable && moreUrgent
     (w .terms) (v .terms)) vs ≡ []
 none-before v [] h = refl
 none-before v (w ∷ ws) h = rw (asymmetric (v .terms) (w .terms) (h .0), and-right (w .runnable)) (none-before v ws (h .1))
@@ -142,7 +151,8 @@ pickFor s j vs (some v) =
       soon = moment (min s (timerOf (earliest (returns (keep (λ w. w .runnable && moreUrgent (w .terms) (v .terms)) vs)))));
     }
 
-step-ready : (s j : ℕ) (v : Tenant) → ready v ≡ true → pickedOf (idleWith s) j (written v) ≡ record { at = j; usable = amount (v .usable); soon = moment s }
+step-ready : (s j : ℕ) (v : Tenant) → ready v ≡ true
+    → pickedOf (idleWith s) j (written v) ≡ record { at = j; usable = amount (v .usable); soon = moment s }
 unfolding pickedOf written
 step-ready s j v e = rw e
 
@@ -154,12 +164,14 @@ runnable-written : (v : Tenant) → (written v) .runnable ≡ v .runnable
 unfolding written
 runnable-written v = refl
 
-step-waits : (s j : ℕ) (v : Tenant) → ready v ≡ false → pickedOf (idleWith s) j (written v) ≡ idleWith (min s (cond (v .runnable) (front (v .pending)) never))
+step-waits : (s j : ℕ) (v : Tenant) → ready v ≡ false
+    → pickedOf (idleWith s) j (written v) ≡ idleWith (min s (cond (v .runnable) (front (v .pending)) never))
 unfolding pickedOf
 step-waits s j v e = rw (ready-written v ∙ e, head-written v, runnable-written v)
 
 -- the scan of the rest, where the one at j is not ready
-module _ (s j : ℕ) (v : Tenant) (vs : List Tenant) (calm : All Calm (v ∷ vs)) (ranked : Ranked (termsOf (v ∷ vs))) (distinct : Distinct (termsOf
+module _ (s j : ℕ) (v : Tenant) (vs : List Tenant) (calm : All Calm (v ∷ vs)) (ranked : Ranked (termsOf (v ∷ vs)))
+    (distinct : Distinct (termsOf
     (v ∷ vs))) where
   later-chosen : (o : Option Tenant) → mostUrgent (keep ready vs) ≡ o
       → pickFor (min s (cond (v .runnable) (front (v .pending)) never)) (suc j) vs o ≡ pickFor s j (v ∷ vs) o
@@ -179,7 +191,8 @@ module _ (s j : ℕ) (v : Tenant) (vs : List Tenant) (calm : All Calm (v ∷ vs)
       waits-same true = rw urgent
       waits-same false = refl
 
-      placed-later : (b : Bool) → named (u .terms .tunnel) v ≡ b → suc j + place (u .terms .tunnel) vs ≡ j + cond b 0 (suc (place (u .terms .tunnel) vs))
+      placed-later : (b : Bool) → named (u .terms .tunnel) v ≡ b
+          → suc j + place (u .terms .tunnel) vs ≡ j + cond b 0 (suc (place (u .terms .tunnel) vs))
       placed-later true f = absurd (apart (sym (eqb-true (v .terms .tunnel) (u .terms .tunnel) f)))
       placed-later false f = omega arith
 
@@ -192,7 +205,8 @@ pub scan : (s j : ℕ) (vs : List Tenant) → s ≤ never → j + length vs ≤ 
     → picks (idleWith s) j (map written vs) ≡ pickFor s j vs (choose vs)
 scan s j [] l h calm ranked distinct = ap idleWith (omega arith)
 scan s j (v ∷ vs) l h calm ranked distinct =
-    go (ready v) refl (scan (min s (cond (v .runnable) (front (v .pending)) never)) (suc j) vs (omega arith) (omega arith) (calm .1) (ranked .1) (distinct .1))
+    go (ready v) refl (scan (min s (cond (v .runnable) (front (v .pending)) never)) (suc j) vs (omega arith) (omega arith) (calm .1)
+    (ranked .1) (distinct .1))
   where
     first : eqb (v .terms .tunnel) (v .terms .tunnel) ≡ true
     first = eq-eqb (v .terms .tunnel) (v .terms .tunnel) refl
@@ -210,10 +224,12 @@ scan s j (v ∷ vs) l h calm ranked distinct =
     go : (b : Bool) → ready v ≡ b
         → picks (idleWith (min s (cond (v .runnable) (front (v .pending)) never))) (suc j) (map written vs)
         ≡ pickFor (min s (cond (v .runnable) (front (v .pending)) never)) (suc j) vs (choose vs)
-        → picks (pickedOf (idleWith s) j (written v)) (suc j) (map written vs) ≡ pickFor s j (v ∷ vs) (mostUrgent (cond b (v ∷ keep ready vs) (keep ready vs)))
+        → picks (pickedOf (idleWith s) j (written v)) (suc j) (map written vs)
+        ≡ pickFor s j (v ∷ vs) (mostUrgent (cond b (v ∷ keep ready vs) (keep ready vs)))
     go true e rec =
         ap (λ (k : Pick). picks k (suc j) (map written vs)) (step-ready s j v e)
-        ∙ found-stays (record { at = j; usable = amount (v .usable); soon = moment s }) (suc j) (map written vs) (lt-ltb j idle (omega arith))
+        ∙ found-stays (record { at = j; usable = amount (v .usable); soon = moment s }) (suc j) (map written vs)
+        (lt-ltb j idle (omega arith))
         ∙ found
         ∙ ap (λ (w : Tenant). pickFor s j (v ∷ vs) (some w)) (sym (first-chosen v vs (ranked .0)))
     go false e rec =

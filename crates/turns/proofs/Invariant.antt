@@ -69,7 +69,8 @@ pub nowhere : (t : ℕ) (vs : List Tenant) → count (named t) vs ≡ 0 → All 
 nowhere t [] h = tt
 nowhere t (v ∷ vs) h = go (named t v) refl h (nowhere t vs)
   where
-    go : (b : Bool) → named t v ≡ b → cond b 1 0 + count (named t) vs ≡ 0 → (count (named t) vs ≡ 0 → All (λ e. e .tunnel ≡ t → ⊥) (termsOf vs))
+    go : (b : Bool) → named t v ≡ b → cond b 1 0 + count (named t) vs ≡ 0
+        → (count (named t) vs ≡ 0 → All (λ e. e .tunnel ≡ t → ⊥) (termsOf vs))
         → All (λ e. e .tunnel ≡ t → ⊥) (termsOf (v ∷ vs))
     go true e g rec = absurd (omega arith)
     go false e g rec = (eqb-false (v .terms .tunnel) t e, rec (omega arith))

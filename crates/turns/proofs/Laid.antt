@@ -65,7 +65,8 @@ module _ {A B : Type 0} (f : A → B) (z : B) where
   pushed (suc k) [] a h = ap (λ (r : List B). f a ∷ r) (filled k)
   pushed (suc k) (x ∷ l) a h = ap (λ (r : List B). f a ∷ r) (pushed k l x (omega arith))
 
-  pub laid-put : (k : ℕ) (l : List A) (i : ℕ) (a : A) → i ≤ length l → length l < k → inserted i (f a) (laid k f z l) ≡ laid k f z (putAt i a l)
+  pub laid-put : (k : ℕ) (l : List A) (i : ℕ) (a : A) → i ≤ length l → length l < k
+      → inserted i (f a) (laid k f z l) ≡ laid k f z (putAt i a l)
   unfolding laid
   laid-put k l zero a h g = pushed k l a g
   laid-put k [] (suc i) a h g = absurd (omega arith)

@@ -51,12 +51,14 @@ kept c r now change =
       shows = shows (refusal (card c) (now .0) (asked change)) refl;
     }
   where
-    sound : (o : Option Row) → refusal (card c) (now .0) (asked change) ≡ o → SoundCore (coreOf ((answered (card c) (callOf now change) o) .card))
+    sound : (o : Option Row) → refusal (card c) (now .0) (asked change) ≡ o
+        → SoundCore (coreOf ((answered (card c) (callOf now change) o) .card))
     sound none e = core-sound (now .0) (afterChange (card c) (callOf now change)) (meets c r now change e .not-above)
         (next-between c r now change e) (callOf now change ∷ r .calls) (next-card c r now change e)
     sound (some x) e = subst SoundCore (r .written) r
 
-    shows : (o : Option Row) → refusal (card c) (now .0) (asked change) ≡ o → card (coreOf ((answered (card c) (callOf now change) o) .card)) ≡
+    shows : (o : Option Row) → refusal (card c) (now .0) (asked change) ≡ o
+        → card (coreOf ((answered (card c) (callOf now change) o) .card)) ≡
         (answered (card c) (callOf now change) o) .card
     shows none e = shown-again (now .0) (afterChange (card c) (callOf now change)) (meets c r now change e .not-above)
         (next-between c r now change e)

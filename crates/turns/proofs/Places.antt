@@ -30,7 +30,8 @@ pub place-there : (t : ℕ) (vs : List Tenant) → onCard t vs ≡ true → plac
 place-there t [] e = clash (sym e)
 place-there t (v ∷ vs) e = go (named t v) e (place-there t vs)
   where
-    go : (b : Bool) → b || onCard t vs ≡ true → (onCard t vs ≡ true → place t vs < length vs) → cond b 0 (suc (place t vs)) < suc (length vs)
+    go : (b : Bool) → b || onCard t vs ≡ true → (onCard t vs ≡ true → place t vs < length vs)
+        → cond b 0 (suc (place t vs)) < suc (length vs)
     go true f rec = omega arith
     go false f rec = let h : place t vs < length vs = rec f in omega arith
 
@@ -65,7 +66,8 @@ named-set t f z (v ∷ vs) d h = go (named t v) refl h (named-set t f z vs (d .1
     go : (b : Bool) → named t v ≡ b → cond b 0 (suc (place t vs)) < suc (length vs)
         → (place t vs < length vs → toNamed t f vs ≡ set vs (place t vs) (f (getD vs (place t vs) z)))
         → cond b (f v) v ∷ toNamed t f vs ≡ set (v ∷ vs) (cond b 0 (suc (place t vs))) (f (getD (v ∷ vs) (cond b 0 (suc (place t vs))) z))
-    go true e g rec = ap (λ (r : List Tenant). f v ∷ r) (others t f vs (subst (λ (n : ℕ). All (λ e′. e′ .tunnel ≡ n → ⊥) (termsOf vs)) (eqb-true
+    go true e g rec = ap (λ (r : List Tenant). f v ∷ r)
+        (others t f vs (subst (λ (n : ℕ). All (λ e′. e′ .tunnel ≡ n → ⊥) (termsOf vs)) (eqb-true
         (v .terms .tunnel) t e) (d .0)))
     go false e g rec = ap (λ (r : List Tenant). v ∷ r) (rec (omega arith))
 
@@ -74,7 +76,8 @@ keeps t [] h = refl
 keeps t (v ∷ vs) h = rw (ne-eqb (v .terms .tunnel) t (h .0)) (ap (λ (r : List Tenant). v ∷ r) (keeps t vs (h .1)))
 
 -- remove takes out the place of the one so named
-pub removed-cut : (t : ℕ) (vs : List Tenant) → Distinct (termsOf vs) → place t vs < length vs → keep (λ v. not (named t v)) vs ≡ cutAt (place t vs) vs
+pub removed-cut : (t : ℕ) (vs : List Tenant) → Distinct (termsOf vs) → place t vs < length vs
+    → keep (λ v. not (named t v)) vs ≡ cutAt (place t vs) vs
 removed-cut t [] d h = absurd (omega arith)
 removed-cut t (v ∷ vs) d h = go (named t v) refl h (removed-cut t vs (d .1))
   where
@@ -101,7 +104,8 @@ pub placed-put : (a : Tenant) (vs : List Tenant) → placed a vs ≡ putAt (spot
 placed-put a [] = refl
 placed-put a (w ∷ ws) = go (moreUrgent (a .terms) (w .terms)) (placed-put a ws)
   where
-    go : (b : Bool) → placed a ws ≡ putAt (spotOf a ws) a ws → cond b (a ∷ w ∷ ws) (w ∷ placed a ws) ≡ putAt (cond b 0 (suc (spotOf a ws))) a (w ∷ ws)
+    go : (b : Bool) → placed a ws ≡ putAt (spotOf a ws) a ws
+        → cond b (a ∷ w ∷ ws) (w ∷ placed a ws) ≡ putAt (cond b 0 (suc (spotOf a ws))) a (w ∷ ws)
     go true rec = refl
     go false rec = ap (λ (r : List Tenant). w ∷ r) rec
 

@@ -101,7 +101,8 @@ in-range (x ∷ l) (suc i) a b h = in-range l i a b (omega arith)
 holder-shown : (ids : List Tunnel) (at : ℕ) → length ids ≡ 32 → holderOf ids at ≡ holderSaid (runningAt at ids)
 holder-shown ids at l = go (ltb at idle) refl
   where
-    go : (b : Bool) → ltb at idle ≡ b → cond b (Held (getD ids at (tunnel 0))) Idle′ ≡ holderSaid (cond b (some ((getD ids at (tunnel nobody)) .0)) none)
+    go : (b : Bool) → ltb at idle ≡ b
+        → cond b (Held (getD ids at (tunnel 0))) Idle′ ≡ holderSaid (cond b (some ((getD ids at (tunnel nobody)) .0)) none)
     go true e = ap Held (in-range ids at (tunnel 0) (tunnel nobody) (omega (arith, ltb-true at idle e)))
     go false e = refl
 

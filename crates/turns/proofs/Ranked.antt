@@ -36,7 +36,8 @@ return-terms k now = ap termsOf (each-stepped k now) ∙ go (k .vcpus)
     go [] = refl
     go (v ∷ vs) = rw (terms-stepped (k .last) now (k .running) v, go vs)
 
-pub named-terms : (t : ℕ) (f : Tenant → Tenant) (vs : List Tenant) → ((v : Tenant) → f v .terms ≡ v .terms) → termsOf (toNamed t f vs) ≡ termsOf vs
+pub named-terms : (t : ℕ) (f : Tenant → Tenant) (vs : List Tenant) → ((v : Tenant) → f v .terms ≡ v .terms)
+    → termsOf (toNamed t f vs) ≡ termsOf vs
 named-terms t f [] h = refl
 named-terms t f (v ∷ vs) h = go (named t v) ∙ ap (λ (l : List Description). v .terms ∷ l) (named-terms t f vs h)
   where
@@ -45,7 +46,8 @@ named-terms t f (v ∷ vs) h = go (named t v) ∙ ap (λ (l : List Description).
     go false = refl
 
 -- a newcomer
-placed-terms : (P : Description → Type 0) (a : Tenant) (vs : List Tenant) → P (a .terms) → All P (termsOf vs) → All P (termsOf (placed a vs))
+placed-terms : (P : Description → Type 0) (a : Tenant) (vs : List Tenant) → P (a .terms) → All P (termsOf vs)
+    → All P (termsOf (placed a vs))
 placed-terms P a [] g h = (g, h)
 placed-terms P a (w ∷ ws) g h = go (moreUrgent (a .terms) (w .terms)) (placed-terms P a ws g (h .1))
   where
@@ -53,18 +55,22 @@ placed-terms P a (w ∷ ws) g h = go (moreUrgent (a .terms) (w .terms)) (placed-
     go true rec = (g, h)
     go false rec = (h .0, rec)
 
-apart-ranked : (a : Tenant) (vs : List Tenant) → All (λ e. e .tunnel ≡ a .terms .tunnel → ⊥) (termsOf vs) → Ranked (termsOf vs) → Ranked (termsOf
+apart-ranked : (a : Tenant) (vs : List Tenant) → All (λ e. e .tunnel ≡ a .terms .tunnel → ⊥) (termsOf vs) → Ranked (termsOf vs)
+    → Ranked (termsOf
     (placed a vs))
 apart-ranked a [] h r = (tt, tt)
 apart-ranked a (w ∷ ws) h r = go (moreUrgent (a .terms) (w .terms)) refl (apart-ranked a ws (h .1) (r .1))
   where
-    go : (t : Bool) → moreUrgent (a .terms) (w .terms) ≡ t → Ranked (termsOf (placed a ws)) → Ranked (termsOf (cond t (a ∷ w ∷ ws) (w ∷ placed a ws)))
+    go : (t : Bool) → moreUrgent (a .terms) (w .terms) ≡ t → Ranked (termsOf (placed a ws))
+        → Ranked (termsOf (cond t (a ∷ w ∷ ws) (w ∷ placed a ws)))
     go true e rec = ((e, all-imp (λ x g. transitive (a .terms) (w .terms) x e g) (termsOf ws) (r .0)), r)
     go false e rec =
         (placed-terms (λ x. moreUrgent (w .terms) x ≡ true) a ws (total (a .terms) (w .terms) (λ g. h .0 (sym g)) e) (r .0), rec)
 
-pub placed-ranked : (a : Tenant) (vs : List Tenant) → onCard (a .terms .tunnel) vs ≡ false → Ranked (termsOf vs) → Ranked (termsOf (placed a vs))
-placed-ranked a vs e r = apart-ranked a vs (nowhere (a .terms .tunnel) vs (count-none (named (a .terms .tunnel)) vs (any-false (named (a .terms .tunnel)) vs e))) r
+pub placed-ranked : (a : Tenant) (vs : List Tenant) → onCard (a .terms .tunnel) vs ≡ false → Ranked (termsOf vs)
+    → Ranked (termsOf (placed a vs))
+placed-ranked a vs e r = apart-ranked a vs
+    (nowhere (a .terms .tunnel) vs (count-none (named (a .terms .tunnel)) vs (any-false (named (a .terms .tunnel)) vs e))) r
 
 -- one taken out
 keep-terms : (P : Description → Type 0) (test : Tenant → Bool) (vs : List Tenant) → All P (termsOf vs) → All P (termsOf (keep test vs))

@@ -94,7 +94,8 @@ one v e q h =
     (omega arith)
 
 -- the rule on a queue whose front is due, and on one whose front is not
-returned-due : (now : ℕ) (v : Tenant) (e : Entry) (q : List Entry) → e .due ≤ now → returned now (queued v (e ∷ q)) ≡ returned now (taken v e q)
+returned-due : (now : ℕ) (v : Tenant) (e : Entry) (q : List Entry) → e .due ≤ now
+    → returned now (queued v (e ∷ q)) ≡ returned now (taken v e q)
 returned-due now v e q h =
     rw (le-leb (e .due) now h)
     (ap (λ (u : ℕ). record { terms = v .terms; runnable = v .runnable; usable = u; ended = v .ended; pending = still now q }) (omega arith))
@@ -111,7 +112,8 @@ returned-none now v h = go (v .pending) refl h
           pending = still now
               (v .pending);
         } ≡ v
-    go [] e g = rw e (ap (λ (u : ℕ). record { terms = v .terms; runnable = v .runnable; usable = u; ended = v .ended; pending = [] }) (omega arith))
+    go [] e g = rw e (ap (λ (u : ℕ). record { terms = v .terms; runnable = v .runnable; usable = u; ended = v .ended; pending = [] })
+        (omega arith))
     go (f ∷ q) e g = rw (e, lt-leb (f .due) now g) (ap (λ (u : ℕ). record {
       terms = v .terms;
       runnable = v .runnable;
@@ -137,13 +139,18 @@ module _ (w : Vcpu) (now : Moment) (r : Returnable w now) where
   asks : (q : List Entry) → bare w .pending ≡ q → front q ≤ now .0 → (1 ≤ w .count) × (w .usable .0 + ticksAt w 0 < 4294967296)
   unfolding shown written
   asks [] e h = absurd (omega (arith, r .time))
-  asks (f ∷ q) e h = (subst (λ (n : ℕ). 1 ≤ n) (sym counted) (omega arith), subst (λ (n : ℕ). w .usable .0 + n < 4294967296) (sym ticked) within)
+  asks (f ∷ q) e h = (
+    subst (λ (n : ℕ). 1 ≤ n) (sym counted) (omega arith),
+    subst (λ (n : ℕ). w .usable .0 + n < 4294967296)
+        (sym ticked) within,
+  )
     where
       counted : w .count ≡ suc (length q)
       counted = ap (λ (x : Vcpu). x .count) (r .written) ∙ ap length e
 
       ticked : ticksAt w 0 ≡ f .amount
-      ticked = ap (λ (x : Vcpu). ticksAt x 0) (r .written) ∙ ap (λ (l : List Entry). (getD (laid 8 amountOf (amount 0) l) 0 (amount 0)) .0) e ∙ ticks-front f q
+      ticked = ap (λ (x : Vcpu). ticksAt x 0) (r .written)
+          ∙ ap (λ (l : List Entry). (getD (laid 8 amountOf (amount 0) l) 0 (amount 0)) .0) e ∙ ticks-front f q
 
       within : w .usable .0 + f .amount < 4294967296
       within = omega (arith, rw e at (r .fits))
@@ -157,7 +164,8 @@ pub record Again (w x : Vcpu) (now : Moment) : Type 0 where
   pub end : returned (now .0) (bare x) ≡ returned (now .0) (bare w)
   pub less : x .count < w .count
 
-module _ (w : Vcpu) (now : Moment) (r : Returnable w now) (f : Entry) (q : List Entry) (e : bare w .pending ≡ f ∷ q) (h : f .due ≤ now .0) where
+module _ (w : Vcpu) (now : Moment) (r : Returnable w now) (f : Entry) (q : List Entry) (e : bare w .pending ≡ f ∷ q)
+    (h : f .due ≤ now .0) where
   whole : bare w ≡ queued (bare w) (f ∷ q)
   whole = ap (queued (bare w)) e
 
@@ -188,7 +196,8 @@ module _ (w : Vcpu) (now : Moment) (r : Returnable w now) (f : Entry) (q : List 
             record {
               written = stepped ∙ ap written (sym bared);
               few = subst (λ (v : Tenant). length (v .pending) ≤ 8) (sym bared) (omega (arith, short));
-              fits = subst (λ (v : Tenant). v .usable + sum (λ g. g .amount) (v .pending) < 4294967296) (sym bared) (omega (arith, rw e at (r .fits)));
+              fits = subst (λ (v : Tenant). v .usable + sum (λ g. g .amount) (v .pending) < 4294967296) (sym bared)
+                  (omega (arith, rw e at (r .fits)));
               time = r .time;
             };
         end = ap (returned (now .0)) bared ∙ sym (returned-due (now .0) (bare w) f q h) ∙ ap (returned (now .0)) (sym whole);

@@ -34,7 +34,8 @@ abbrev pub verdictOf : Option Row → Verdict
 verdictOf none = Accept
 verdictOf (some r) = refuse (r .number) (r .detail)
 
-row-same : (b : Bool) (n d : ℕ) (x : Verdict) (o : Option Row) → (b ≡ false → x ≡ verdictOf o) → verdictRow b n d x ≡ verdictOf (row b n d o)
+row-same : (b : Bool) (n d : ℕ) (x : Verdict) (o : Option Row) → (b ≡ false → x ≡ verdictOf o)
+    → verdictRow b n d x ≡ verdictOf (row b n d o)
 row-same true n d x o h = refl
 row-same false n d x o h = h refl
 

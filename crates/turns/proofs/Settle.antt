@@ -43,7 +43,8 @@ use Rattle.turns.specs.declared.Vcpu.{Vcpu}
 use Rattle.turns.specs.declared.Core.{Core}
 use Rattle.turns.specs.declared.Pick.{Pick}
 use Rattle.turns.specs.declared.Holder.the-variants.{Vcpu as Held}
-use Rattle.turns.specs.Written.{never, idle, nobody, tunnelOf, written, noTenant, card, coreOf, place, placeOf, timerOf, timerAt, runningAt, tenants}
+use Rattle.turns.specs.Written.{never, idle, nobody, tunnelOf, written, noTenant, card}
+use Rattle.turns.specs.Written.{coreOf, place, placeOf, timerOf, timerAt, runningAt, tenants}
 use Rattle.turns.proofs.Invariant.{Ranked, termsOf, SoundCore, Between}
 use Rattle.turns.specs.Steps.{picks, pickedOf, timerFor}
 use Rattle.turns.specs.Table.{holderOf}
@@ -71,7 +72,8 @@ returns-below : (now : ℕ) (vs : List Tenant) → now ≤ largestTime → All (
 returns-below now [] l h = tt
 returns-below now (v ∷ vs) l h =
     append-all (λ t. t ≤ bound) (map (λ e. e .due) (v .pending)) (returns vs)
-    (dues-below (v .pending) (now + v .terms .period) (omega (arith, h .0 .range .period-high)) (rising-below (suc now) (now + v .terms .period) (v .pending)
+    (dues-below (v .pending) (now + v .terms .period) (omega (arith, h .0 .range .period-high))
+    (rising-below (suc now) (now + v .terms .period) (v .pending)
     (h .0 .order)))
     (returns-below now vs l (h .1))
 
@@ -87,17 +89,20 @@ calm : (now : ℕ) (vs : List Tenant) → now ≤ largestTime → All (Sound now
 calm now vs l =
     all-both (λ v g s. record {
       sorted = s;
-      near = all-imp (λ e f. omega (arith, g .range .period-high)) (v .pending) (rising-below (suc now) (now + v .terms .period) (v .pending) (g .order));
+      near = all-imp (λ e f. omega (arith, g .range .period-high)) (v .pending)
+          (rising-below (suc now) (now + v .terms .period) (v .pending) (g .order));
     }) vs
 
 module _ (now : ℕ) (vs : List Tenant) (l : now ≤ largestTime) (r : Between now vs) where
   usable-small : (v : Tenant) → At v vs → v .usable ≤ largestPeriod
   usable-small v a =
-      let s : Sound now v = subst (Sound now) (a .is) (all-get (Sound now) vs (place (v .terms .tunnel) vs) noTenant (r .each) (a .inside)) in
+      let s : Sound now v = subst (Sound now) (a .is)
+      (all-get (Sound now) vs (place (v .terms .tunnel) vs) noTenant (r .each) (a .inside)) in
       omega (arith, s .whole, s .range .capacity-high, s .range .period-high)
 
   early-small : (test : Tenant → Bool) (t : ℕ) → earliest (returns (keep test vs)) ≡ some t → t ≤ bound
-  early-small test t e = early-below (returns (keep test vs)) t (returns-below now (keep test vs) l (all-keep (Sound now) test vs (r .each))) e
+  early-small test t e = early-below (returns (keep test vs)) t
+      (returns-below now (keep test vs) l (all-keep (Sound now) test vs (r .each))) e
 
   -- the timer stays below the time above all
   timer-below : (t : ℕ) → timer now vs (choose vs) ≡ some t → t < never
@@ -135,7 +140,8 @@ module _ (now : ℕ) (vs : List Tenant) (l : now ≤ largestTime) (r : Between n
   pub shown-again : card (coreOf (settled now vs)) ≡ settled now vs
   unfolding card coreOf settled
   shown-again =
-      same (runningAt (placeOf (runs (choose vs)) vs) (idsOf vs)) (timerAt (timerOf (timer now vs (choose vs)))) (tenants (length vs) (idsOf vs) (placesOf vs))
+      same (runningAt (placeOf (runs (choose vs)) vs) (idsOf vs)) (timerAt (timerOf (timer now vs (choose vs))))
+      (tenants (length vs) (idsOf vs) (placesOf vs))
       running-back timer-back (tenants-laid (tunnel nobody) (written noTenant) 32 vs (r .few) (small vs (all-fit now vs (r .each))))
     where
       same : (a : Option ℕ) (b : Option ℕ) (c : List Tenant) → a ≡ runs (choose vs) → b ≡ timer now vs (choose vs) → c ≡ vs
@@ -208,7 +214,8 @@ module _ (now : ℕ) (vs : List Tenant) (l : now ≤ largestTime) (r : Between n
       go (some v) e =
           let a : At v vs = chosen-at ready vs v (r .distinct) e in
           rw (lt-ltb (place (v .terms .tunnel) vs) idle (omega (arith, a .inside, r .few)))
-          (ap Held (laid-get tunnelOf (tunnel nobody) 32 vs (place (v .terms .tunnel) vs) noTenant (tunnel 0) (a .inside) (r .few) ∙ ap tunnelOf (a .is)))
+          (ap Held (laid-get tunnelOf (tunnel nobody) 32 vs (place (v .terms .tunnel) vs) noTenant (tunnel 0) (a .inside) (r .few)
+          ∙ ap tunnelOf (a .is)))
 
   pub timer-said : timerAt ((timerFor (moment now) (pickFor never 0 vs (choose vs))) .0) ≡ timer now vs (choose vs)
   timer-said = ap (λ (m : Moment). timerAt (m .0)) timer-found ∙ timer-back
@@ -222,14 +229,16 @@ module _ (now : ℕ) (vs : List Tenant) (l : now ≤ largestTime) (r : Between n
         ∙ scan never 0 vs (omega arith) (omega (arith, r .few)) (calm now vs l (r .each) (r .sorted)) (r .ranked) (r .distinct)
 
     core-found : (k : Pick) → k ≡ pickFor never 0 vs (choose vs)
-        → _≡_ {A = Core} (record { places = p; last = moment now; ids = ids; timer = timerFor (moment now) k; running = k .at; n = n }) (coreOf
+        → _≡_ {A = Core} (record { places = p; last = moment now; ids = ids; timer = timerFor (moment now) k; running = k .at; n = n })
+        (coreOf
         (settled now vs))
     unfolding coreOf settled
     core-found k e =
         same p ids (timerFor (moment now) k) (k .at) n (f .places) (f .tunnels) (ap (timerFor (moment now)) e ∙ timer-found) (ap (λ
         (x : Pick). x .at) e ∙ seat-found) (f .count)
       where
-        same : (p : List Vcpu) (ids : List Tunnel) (t : Moment) (a m : ℕ) → p ≡ placesOf vs → ids ≡ idsOf vs → t ≡ moment (timerOf (timer now vs
+        same : (p : List Vcpu) (ids : List Tunnel) (t : Moment) (a m : ℕ) → p ≡ placesOf vs → ids ≡ idsOf vs
+            → t ≡ moment (timerOf (timer now vs
             (choose vs))) → a ≡ placeOf (runs (choose vs)) vs → m ≡ length vs
             → _≡_ {A = Core} (record { places = p; last = moment now; ids = ids; timer = t; running = a; n = m })
             (record {
@@ -264,7 +273,8 @@ pub turned-accepted : (c : Core) (now : Moment) (change : Change) → refusal (c
 unfolding turned turn
 turned-accepted c now change e = ap (λ (o : Option Row). answerOf (answered (card c) (callOf now change) o)) e
 
-pub turned-refused : (c : Core) (now : Moment) (change : Change) (x : Refusal) → SoundCore c → refusal (card c) (now .0) (asked change) ≡ some
+pub turned-refused : (c : Core) (now : Moment) (change : Change) (x : Refusal) → SoundCore c
+    → refusal (card c) (now .0) (asked change) ≡ some
     (record { number = x .number; detail = x .detail })
     → record { core = c; reply = No x } ≡ turned c now change
 unfolding turned turn
@@ -285,10 +295,13 @@ pub answer-found : (now : Moment) (vs : List Tenant) → now .0 ≤ largestTime 
     (answerOf (record { reply = ok (report (settled (now .0) vs)); card = settled (now .0) vs }))
 unfolding settled
 answer-found now vs l r p ids n f k e t te h he s se =
-    same (record { places = p; last = now; ids = ids; timer = t; running = k .at; n = n }) (coreOf (settled (now .0) vs)) h (holderSaid (runs
+    same (record { places = p; last = now; ids = ids; timer = t; running = k .at; n = n }) (coreOf (settled (now .0) vs)) h
+    (holderSaid (runs
     (choose vs))) (k .usable) (amount (usableOf (choose vs))) s (timerSaid (timer (now .0) vs (choose vs)))
-    (ap (λ (x : Moment). record { places = p; last = now; ids = ids; timer = x; running = k .at; n = n }) te ∙ core-found (now .0) vs l r p ids n f k e)
-    (he ∙ ap (λ (x : Pick). holderOf ids (x .at)) e ∙ ap (λ (i : List Tunnel). holderOf i ((pickFor never 0 vs (choose vs)) .at)) (f .tunnels)
+    (ap (λ (x : Moment). record { places = p; last = now; ids = ids; timer = x; running = k .at; n = n }) te
+    ∙ core-found (now .0) vs l r p ids n f k e)
+    (he ∙ ap (λ (x : Pick). holderOf ids (x .at)) e
+    ∙ ap (λ (i : List Tunnel). holderOf i ((pickFor never 0 vs (choose vs)) .at)) (f .tunnels)
     ∙ holder-found (now .0) vs l r)
     (ap (λ (x : Pick). x .usable) e ∙ usable-found (now .0) vs l r)
     (se ∙ ap (λ (x : Moment). timerSaid (timerAt (x .0))) (te ∙ ap (timerFor now) e) ∙ ap timerSaid (timer-said (now .0) vs l r))

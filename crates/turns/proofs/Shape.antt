@@ -121,9 +121,11 @@ module _ (p : List Vcpu) (ids : List Tunnel) (n : ℕ) (vs : List Tenant) (f : F
         cut-length (suc i) (x ∷ l) g = ap suc (cut-length i l (omega arith))
 
     -- a mark set
-    mark-filled : (b : Bool) (z : Vcpu) → Filled (set p at (written (setRunnable b (getD vs (place t vs) noTenant)))) ids n (toNamed t (setRunnable b) vs)
+    mark-filled : (b : Bool) (z : Vcpu)
+        → Filled (set p at (written (setRunnable b (getD vs (place t vs) noTenant)))) ids n (toNamed t (setRunnable b) vs)
     mark-filled b z =
-        subst (λ (k : ℕ). Filled (set p k (written (setRunnable b (getD vs (place t vs) noTenant)))) ids n (toNamed t (setRunnable b) vs)) (sym e)
+        subst (λ (k : ℕ). Filled (set p k (written (setRunnable b (getD vs (place t vs) noTenant)))) ids n
+        (toNamed t (setRunnable b) vs)) (sym e)
         (subst (Filled (set p (place t vs) (written (setRunnable b (getD vs (place t vs) noTenant)))) ids n) (sym (named-set t
         (setRunnable b) noTenant vs (r .distinct) h))
         (filled-set p ids n (place t vs) (setRunnable b (getD vs (place t vs) noTenant)) vs h (r .few) refl f))

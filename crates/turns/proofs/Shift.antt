@@ -23,11 +23,13 @@ module _ (t : ℕ) (l : List Tunnel) (k : ℕ) (h : k < length l) where
   pub seek-on : eqb (getD l k (tunnel 0) .0) t ≡ false → k + seek t (drop k l) ≡ k + 1 + seek t (drop (k + 1) l)
   seek-on e = rw (drop-cons l k (tunnel 0), e, add-one) (omega arith)
 
-module _ (d : Terms) (n : ℕ) (vs : List Vcpu) (ts : List Tunnel) (z : Vcpu) (k : ℕ) (i : k < n) (h : k < length vs) (g : k < length ts) where
+module _ (d : Terms) (n : ℕ) (vs : List Vcpu) (ts : List Tunnel) (z : Vcpu) (k : ℕ) (i : k < n) (h : k < length vs)
+    (g : k < length ts) where
   left : n - k ≡ suc (n - (k + 1))
   left = omega arith
 
-  pub spot-here : moreUrgent d (urgency (getD vs k z .priority) (getD ts k (tunnel 0) .0)) ≡ true → spotIn d (n - k) (drop k vs) (drop k ts) ≡ 0
+  pub spot-here : moreUrgent d (urgency (getD vs k z .priority) (getD ts k (tunnel 0) .0)) ≡ true
+      → spotIn d (n - k) (drop k vs) (drop k ts) ≡ 0
   spot-here e = rw (left, drop-cons vs k z, drop-cons ts k (tunnel 0), e)
 
   pub spot-on : moreUrgent d (urgency (getD vs k z .priority) (getD ts k (tunnel 0) .0)) ≡ false
@@ -60,10 +62,19 @@ module _ {A : Type 0} where
       ≡ take k l ++ (drop (suc k) l ++ z ∷ [])
   remove-step l k z d h = go (getD l (suc k) d) refl
     where
-      go : (x : A) → getD l (suc k) d ≡ x → take (k + 1) (set l k (getD l (k + 1) d)) ++ (drop (suc (k + 1)) (set l k (getD l (k + 1) d)) ++ z ∷ [])
+      go : (x : A) → getD l (suc k) d ≡ x
+          → take (k + 1) (set l k (getD l (k + 1) d)) ++ (drop (suc (k + 1)) (set l k (getD l (k + 1) d)) ++ z ∷ [])
           ≡ take k l ++ (drop (suc k) l ++ z ∷ [])
       go x e =
-          rw (add-one, e, take-suc-set l k x (omega arith), drop-set-lt (suc (suc k)) l k x (omega arith), drop-cons l (suc k) d (omega arith), e)
+          rw (
+            add-one,
+            e,
+            take-suc-set l k x (omega arith),
+            drop-set-lt (suc (suc k)) l k x (omega arith),
+            drop-cons l (suc k) d
+                (omega arith),
+            e,
+          )
           (append-assoc (take k l) (x ∷ []) (drop (suc (suc k)) l ++ z ∷ []))
 
   pub remove-end : (l : List A) (k : ℕ) (z : A) → length l ≡ suc k → set l k z ≡ take k l ++ (drop (suc k) l ++ z ∷ [])

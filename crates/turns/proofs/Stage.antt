@@ -97,7 +97,8 @@ at-later w v vs n a =
     let e : eqb (v .terms .tunnel) (w .terms .tunnel) ≡ false = ne-eqb (v .terms .tunnel) (w .terms .tunnel) (λ f. n (sym f)) in
     record { inside = rw e (omega (arith, a .inside)); is = rw e (a .is) }
 
-apart-at : (v w : Tenant) (vs : List Tenant) → All (λ e. e .tunnel ≡ v .terms .tunnel → ⊥) (termsOf vs) → At w vs → w .terms .tunnel ≡ v .terms .tunnel → ⊥
+apart-at : (v w : Tenant) (vs : List Tenant) → All (λ e. e .tunnel ≡ v .terms .tunnel → ⊥) (termsOf vs) → At w vs
+    → w .terms .tunnel ≡ v .terms .tunnel → ⊥
 apart-at v w vs h a e = get vs (place (w .terms .tunnel) vs) h (a .inside) (ap (λ (x : Tenant). x .terms .tunnel) (a .is) ∙ e)
   where
     get : (l : List Tenant) (i : ℕ) → All (λ d. d .tunnel ≡ v .terms .tunnel → ⊥) (termsOf l) → i < length l
@@ -106,7 +107,8 @@ apart-at v w vs h a e = get vs (place (w .terms .tunnel) vs) h (a .inside) (ap (
     get (x ∷ l) zero g j = g .0
     get (x ∷ l) (suc i) g j = get l i (g .1) (omega arith)
 
-pub chosen-at : (test : Tenant → Bool) (vs : List Tenant) (w : Tenant) → Distinct (termsOf vs) → mostUrgent (keep test vs) ≡ some w → At w vs
+pub chosen-at : (test : Tenant → Bool) (vs : List Tenant) (w : Tenant) → Distinct (termsOf vs) → mostUrgent (keep test vs) ≡ some w
+    → At w vs
 chosen-at test [] w d e = no-some e
 chosen-at test (v ∷ vs) w d e = go (test v) e (λ u. chosen-at test vs u (d .1))
   where
@@ -119,9 +121,11 @@ chosen-at test (v ∷ vs) w d e = go (test v) e (λ u. chosen-at test vs u (d .1
 
     inner : (o : Option Tenant) → ((u : Tenant) → o ≡ some u → At u vs) → some (better v o) ≡ some w → At w (v ∷ vs)
     inner none rec f = let g : v ≡ w = cc in subst (λ (x : Tenant). At x (v ∷ vs)) g (at-first v vs)
-    inner (some u) rec f = let g : cond (moreUrgent (u .terms) (v .terms)) u v ≡ w = cc in pick (moreUrgent (u .terms) (v .terms)) u g (rec u refl)
+    inner (some u) rec f = let g : cond (moreUrgent (u .terms) (v .terms)) u v ≡ w = cc in
+        pick (moreUrgent (u .terms) (v .terms)) u g (rec u refl)
 
-    go : (b : Bool) → mostUrgent (cond b (v ∷ keep test vs) (keep test vs)) ≡ some w → ((u : Tenant) → mostUrgent (keep test vs) ≡ some u → At u vs)
+    go : (b : Bool) → mostUrgent (cond b (v ∷ keep test vs) (keep test vs)) ≡ some w
+        → ((u : Tenant) → mostUrgent (keep test vs) ≡ some u → At u vs)
         → At w (v ∷ vs)
     go true f rec = inner (mostUrgent (keep test vs)) rec f
     go false f rec = further w (rec w f)
@@ -196,11 +200,13 @@ slot-most (suc k) zero (e ∷ q) = omega arith
 slot-most (suc k) (suc i) (e ∷ q) = omega (arith, slot-most k i q)
 
 -- the charge of the one that holds the core
-module _ (c : Core) (r : SoundCore c) (now : Moment) (change : Change) (m : Passed (card c) (now .0) (asked change)) (w : Tenant) (h : Runs c w) where
+module _ (c : Core) (r : SoundCore c) (now : Moment) (change : Change) (m : Passed (card c) (now .0) (asked change)) (w : Tenant)
+    (h : Runs c w) where
   sound : Sound (card c .last) w
   sound =
       subst (Sound (card c .last)) (h .at .is)
-      (all-get (Sound (card c .last)) (card c .vcpus) (place (w .terms .tunnel) (card c .vcpus)) noTenant (between c r .each) (h .at .inside))
+      (all-get (Sound (card c .last)) (card c .vcpus) (place (w .terms .tunnel) (card c .vcpus)) noTenant (between c r .each)
+      (h .at .inside))
 
   enough : now .0 - card c .last ≤ w .usable
   enough =
@@ -218,7 +224,8 @@ module _ (c : Core) (r : SoundCore c) (now : Moment) (change : Change) (m : Pass
   held-record z =
       ap (λ (p : List Vcpu). getD p (c .running) z) (places-are c r)
       ∙ ap (λ (i : ℕ). getD (placesOf (card c .vcpus)) i z) (h .place)
-      ∙ laid-get written (written noTenant) 32 (card c .vcpus) (place (w .terms .tunnel) (card c .vcpus)) noTenant z (h .at .inside) (between c r .few)
+      ∙ laid-get written (written noTenant) 32 (card c .vcpus) (place (w .terms .tunnel) (card c .vcpus)) noTenant z (h .at .inside)
+      (between c r .few)
       ∙ ap written (h .at .is)
 
   chargeable : Chargeable (written w) (moment (card c .last)) now
@@ -234,7 +241,8 @@ module _ (c : Core) (r : SoundCore c) (now : Moment) (change : Change) (m : Pass
   held-chargeable : (z : Vcpu) → Chargeable (getD (c .places) (c .running) z) (c .last) now
   held-chargeable z = rw (held-record z, last-is c r) chargeable
 
-  charge-set : afterCharge (card c) (now .0) ≡ set (card c .vcpus) (place (w .terms .tunnel) (card c .vcpus)) (charged (card c .last) (now .0) w)
+  charge-set : afterCharge (card c) (now .0)
+      ≡ set (card c .vcpus) (place (w .terms .tunnel) (card c .vcpus)) (charged (card c .last) (now .0) w)
   charge-set =
       ap (λ (o : Option ℕ). charge (card c .last) (now .0) o (card c .vcpus)) (h .seat)
       ∙ named-set (w .terms .tunnel) (charged (card c .last) (now .0)) noTenant (card c .vcpus) (between c r .distinct) (h .at .inside)
@@ -256,20 +264,24 @@ module _ (c : Core) (r : SoundCore c) (now : Moment) (change : Change) (m : Pass
       (all-set Fits (card c .vcpus) (place (w .terms .tunnel) (card c .vcpus)) (charged (card c .last) (now .0) w)
       (all-fit (card c .last) (card c .vcpus) (between c r .each)) charged-fits)
 
-  charge-filled : (z : Vcpu) → Filled (set (c .places) (c .running) (chargedOf (getD (c .places) (c .running) z) (c .last) now)) (c .ids) (c .n)
+  charge-filled : (z : Vcpu) → Filled (set (c .places) (c .running) (chargedOf (getD (c .places) (c .running) z) (c .last) now)) (c .ids)
+      (c .n)
       (afterCharge (card c) (now .0))
   charge-filled z =
       subst (λ (p : List Vcpu). Filled p (c .ids) (c .n) (afterCharge (card c) (now .0))) (sym same)
-      (subst (Filled (set (c .places) (place (w .terms .tunnel) (card c .vcpus)) (written (charged (card c .last) (now .0) w))) (c .ids) (c .n))
+      (subst (Filled (set (c .places) (place (w .terms .tunnel) (card c .vcpus)) (written (charged (card c .last) (now .0) w))) (c .ids)
+      (c .n))
       (sym charge-set)
       (filled-set (c .places) (c .ids) (c .n) (place (w .terms .tunnel) (card c .vcpus)) (charged (card c .last) (now .0) w) (card c .vcpus)
       (h .at .inside) (between c r .few) (ap (λ (d : Description). d .tunnel) terms-kept) (filled c r)))
     where
       written-charge : chargedOf (written w) (moment (card c .last)) now ≡ written (charged (card c .last) (now .0) w)
-      written-charge = charged-same (card c .last) (now .0 - card c .last) w (sound .few) (omega (arith, m .not-above, m .not-before, sound .range .period-high))
+      written-charge = charged-same (card c .last) (now .0 - card c .last) w (sound .few)
+          (omega (arith, m .not-above, m .not-before, sound .range .period-high))
           (now .0) (m .not-before) refl
 
-      same : set (c .places) (c .running) (chargedOf (getD (c .places) (c .running) z) (c .last) now) ≡ set (c .places) (place (w .terms .tunnel)
+      same : set (c .places) (c .running) (chargedOf (getD (c .places) (c .running) z) (c .last) now)
+          ≡ set (c .places) (place (w .terms .tunnel)
           (card c .vcpus)) (written (charged (card c .last) (now .0) w))
       same =
           ap (λ (v : Vcpu). set (c .places) (c .running) (chargedOf v (c .last) now)) (held-record z)
@@ -278,7 +290,8 @@ module _ (c : Core) (r : SoundCore c) (now : Moment) (change : Change) (m : Pass
           ∙ ap (λ (i : ℕ). set (c .places) i (written (charged (card c .last) (now .0) w))) (h .place)
 
 -- in idle nobody is charged
-module _ (c : Core) (r : SoundCore c) (now : Moment) (change : Change) (m : Passed (card c) (now .0) (asked change)) (e : card c .running ≡ none) where
+module _ (c : Core) (r : SoundCore c) (now : Moment) (change : Change) (m : Passed (card c) (now .0) (asked change))
+    (e : card c .running ≡ none) where
   idle-charge : afterCharge (card c) (now .0) ≡ card c .vcpus
   idle-charge = ap (λ (o : Option ℕ). charge (card c .last) (now .0) o (card c .vcpus)) e
 

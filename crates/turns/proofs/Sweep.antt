@@ -63,7 +63,8 @@ pub record Sweeping (now : Moment) (ids : List Tunnel) (n : ℕ) (p₀ p : List 
   pub most : i ≤ n
   pub few : n ≤ 32
 
-pub sweep-start : (now : Moment) (ids : List Tunnel) (n : ℕ) (p : List Vcpu) (vs : List Tenant) → now .0 ≤ largestTime → n ≤ 32 → Filled p ids n vs
+pub sweep-start : (now : Moment) (ids : List Tunnel) (n : ℕ) (p : List Vcpu) (vs : List Tenant) → now .0 ≤ largestTime → n ≤ 32
+    → Filled p ids n vs
     → All Fits vs → Sweeping now ids n p p 0
 sweep-start now ids n p vs h l f r =
     let e : tenants n ids p ≡ vs = filled-tenants p ids n vs (omega (arith, f .count)) (small vs r) f in
@@ -101,7 +102,8 @@ module _ (now : Moment) (x : Tenant) (h : now .0 ≤ largestTime) (r : Fits x) w
   rests : not (ltb (now .0) (headOf (written x))) ≡ false → returned (now .0) x ≡ x
   rests e =
       returned-none (now .0) x
-      (subst (λ (n : ℕ). now .0 < n) (head-written x) (ltb-true (now .0) (headOf (written x)) (not-false (ltb (now .0) (headOf (written x))) e)))
+      (subst (λ (n : ℕ). now .0 < n) (head-written x)
+      (ltb-true (now .0) (headOf (written x)) (not-false (ltb (now .0) (headOf (written x))) e)))
 
 module _ (now : Moment) (ids : List Tunnel) (n : ℕ) (p₀ p : List Vcpu) (i : ℕ) (s : Sweeping now ids n p₀ p i) (h : i < n) (z : Vcpu) where
   inside : i < length (tenants n ids p₀)
@@ -125,7 +127,8 @@ module _ (now : Moment) (ids : List Tunnel) (n : ℕ) (p₀ p : List Vcpu) (i : 
   pub sweep-asks : Returnable (getD p i z) now
   sweep-asks = subst (λ (v : Vcpu). Returnable v now) (sym read) (returnable now (getD (tenants n ids p₀) i noTenant) (s .time) sound)
 
-  next : placesOf (upto (returned (now .0)) (i + 1) (tenants n ids p₀)) ≡ set p i (written (returned (now .0) (getD (tenants n ids p₀) i noTenant)))
+  next : placesOf (upto (returned (now .0)) (i + 1) (tenants n ids p₀))
+      ≡ set p i (written (returned (now .0) (getD (tenants n ids p₀) i noTenant)))
   next =
       ap (λ (k : ℕ). placesOf (upto (returned (now .0)) k (tenants n ids p₀))) (add-one i)
       ∙ ap placesOf (sym (upto-set (returned (now .0)) i (tenants n ids p₀) noTenant inside))
@@ -139,14 +142,16 @@ module _ (now : Moment) (ids : List Tunnel) (n : ℕ) (p₀ p : List Vcpu) (i : 
   pub sweep-due : Sweeping now ids n p₀ (set p i (written (returned (now .0) (bare (getD p i z))))) (i + 1)
   sweep-due =
       on (set p i (written (returned (now .0) (bare (getD p i z)))))
-      (ap (λ (v : Vcpu). set p i (written (returned (now .0) (bare v)))) read ∙ ap (set p i) (returned-bare now (getD (tenants n ids p₀) i noTenant)
+      (ap (λ (v : Vcpu). set p i (written (returned (now .0) (bare v)))) read
+      ∙ ap (set p i) (returned-bare now (getD (tenants n ids p₀) i noTenant)
       (s .time) sound))
 
   pub sweep-rests : not (ltb (now .0) (headOf (getD p i z))) ≡ false → Sweeping now ids n p₀ p (i + 1)
   sweep-rests e =
       on p
       (sym (set-getD p i z)
-      ∙ ap (set p i) (read ∙ ap written (sym (rests now (getD (tenants n ids p₀) i noTenant) (s .time) sound (ap (λ (v : Vcpu). not (ltb (now .0)
+      ∙ ap (set p i) (read ∙ ap written
+      (sym (rests now (getD (tenants n ids p₀) i noTenant) (s .time) sound (ap (λ (v : Vcpu). not (ltb (now .0)
       (headOf v))) (sym read) ∙ e)))))
 
 ids-kept : (now k : ℕ) (z : Tunnel) (vs : List Tenant) → laid k tunnelOf z (bring now vs) ≡ laid k tunnelOf z vs
@@ -160,7 +165,8 @@ bring-length now [] = refl
 bring-length now (v ∷ vs) = ap suc (bring-length now vs)
 
 -- when it is done
-module _ (now : Moment) (ids : List Tunnel) (n : ℕ) (p₀ p : List Vcpu) (i : ℕ) (s : Sweeping now ids n p₀ p i) (h : n ≤ i) (vs : List Tenant)
+module _ (now : Moment) (ids : List Tunnel) (n : ℕ) (p₀ p : List Vcpu) (i : ℕ) (s : Sweeping now ids n p₀ p i) (h : n ≤ i)
+    (vs : List Tenant)
     (f : Filled p₀ ids n vs) (r : All Fits vs) where
   all : tenants n ids p₀ ≡ vs
   all = filled-tenants p₀ ids n vs (omega (arith, f .count, s .few)) (small vs r) f

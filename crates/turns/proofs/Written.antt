@@ -26,7 +26,8 @@ under t v =
       pending = v .pending;
     }
 
-entries-laid : (y : Moment) (z : Amount) (k : ℕ) (q : List Entry) → length q ≤ k → entries (length q) (laid k dueOf y q) (laid k amountOf z q) ≡ q
+entries-laid : (y : Moment) (z : Amount) (k : ℕ) (q : List Entry) → length q ≤ k
+    → entries (length q) (laid k dueOf y q) (laid k amountOf z q) ≡ q
 unfolding laid
 entries-laid y z k [] h = refl
 entries-laid y z zero (e ∷ q) h = absurd (omega arith)

@@ -21,7 +21,9 @@ new-requires-3 c κs = search needs
 
 returns : tie.Need-returns
 unfolding coreOf laid
-returns c = first _ (rw (c .new3 .ensures, c .before .new2 .ensures, c .before .before .new .ensures, c .before .before .before .vacant .ensures))
+returns c =
+    let n : tie.After-new = c .before .before in
+    first _ (rw (c .new3 .ensures, c .before .new2 .ensures, n .new .ensures, n .before .vacant .ensures))
 
 pub empty-spec : {M : Type 1} → statement M
 empty-spec =

@@ -23,11 +23,14 @@ timer-said-requires c κs = search needs
 abbrev E : Type 0
 E = tie.After-timer-said
 
+abbrev start : E → tie.Start
+start c = c .before .before .before .before .before
+
 abbrev core : E → Core
-core c = c .before .before .before .before .before .args .self
+core c = start c .args .self
 
 valid : (c : E) → SoundCore (core c)
-valid c = sound (core c) (c .before .before .before .before .before .pre)
+valid c = sound (core c) (start c .pre)
 
 returns : tie.Need-returns
 unfolding card

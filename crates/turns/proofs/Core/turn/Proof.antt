@@ -38,7 +38,8 @@ use Rattle.turns.proofs.Questions.{unread}
 use Rattle.turns.proofs.Rows.{idsOf}
 use Rattle.turns.proofs.Settle.{answer-found, pick-found, scan-end, scan-step, turned-accepted, turned-refused}
 use Rattle.turns.proofs.Shape.{Changeable, FilledBy, Table, change-filled, changeable, changedTable}
-use Rattle.turns.proofs.Stage.{Filled, Stands, accepted-call, charge-asks, charge-stands, idle-stands, n-is, named-card, refused-call}
+use Rattle.turns.proofs.Stage.{Filled, Stands, accepted-call, charge-asks}
+use Rattle.turns.proofs.Stage.{charge-stands, idle-stands, n-is, named-card, refused-call}
 use Rattle.turns.proofs.Sweep.{Sweeping, sweep-asks, sweep-due, sweep-filled, sweep-rests, sweep-start}
 use Rattle.turns.proofs.Core.turn.Statement.{statement}
 use Rattle.turns.proofs.Core.turn.Tie as tie

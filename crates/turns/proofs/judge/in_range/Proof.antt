@@ -8,7 +8,11 @@ returns : tie.Need-returns
 returns c = rw (lt-leb 1 (c .before .args .period) (c .if1 .taken))
 
 returns-2 : tie.Need-returns-2
-returns-2 c = rw (le-leb 1 (c .before .before .args .period) (c .before .if1 .left), lt-leb (c .before .before .args .period) 1000000 (c .if2 .taken))
+returns-2 c = rw (
+  le-leb 1 (c .before .before .args .period) (c .before .if1 .left),
+  lt-leb (c .before .before .args .period) 1000000
+      (c .if2 .taken),
+)
 
 returns-3 : tie.Need-returns-3
 returns-3 c = rw (

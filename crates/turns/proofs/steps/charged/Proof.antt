@@ -20,13 +20,19 @@ elapsed-requires : tie.Need-elapsed-requires
 elapsed-requires c κs = search needs
 
 posted-requires : tie.Need-posted-requires
-posted-requires c κs = let e : c .elapsed .result .0 ≡ c .before .before .before .args .now .0 - c .before .before .before .args .last .0 = ap (λ
-    (a : Amount). a .0) (c .elapsed .ensures) in
-    (c .before .before .before .pre .few, λ k. omega (arith, c .before .before .before .pre .fits k, c .before .before .before .pre .enough))
+posted-requires c κs = let e : c .elapsed .result .0
+    ≡ c .before .before .before .args .now .0 - c .before .before .before .args .last .0 = ap (λ
+    (a : Amount). a .0) (c .elapsed .ensures) in (
+      c .before .before .before .pre .few,
+      λ k. omega
+          (arith, c .before .before .before .pre .fits k, c .before .before .before .pre .enough),
+    )
 
 less-requires : tie.Need-less-requires
-less-requires c κs = let e : c .before .elapsed .result .0 ≡ c .before .before .before .before .args .now .0 - c .before .before .before .before
-    .args .last .0 = ap (λ (a : Amount). a .0) (c .before .elapsed .ensures) in omega (arith, c .before .before .before .before .pre .enough)
+less-requires c κs = let e : c .before .elapsed .result .0
+    ≡ c .before .before .before .before .args .now .0 - c .before .before .before .before
+    .args .last .0 = ap (λ (a : Amount). a .0) (c .before .elapsed .ensures) in
+    omega (arith, c .before .before .before .before .pre .enough)
 
 returns-2 : tie.Need-returns-2
 unfolding chargedOf

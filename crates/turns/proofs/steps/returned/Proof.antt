@@ -1,4 +1,5 @@
--- `turns::steps::returned` meets its contract: the loop takes the front entry while it is due; its invariant keeps the end that the rule gives, and the count falls.
+-- `turns::steps::returned` meets its contract: the loop takes the front entry while it is due; its invariant keeps the end that the
+-- rule gives, and the count falls.
 -- Assumes nothing.
 use Rattle.turns.specs.declared.Vcpu.{Vcpu}
 use Rattle.turns.proofs.Return.{one-asks, one-again, one-ends}
@@ -24,7 +25,8 @@ due-by-requires : tie.Need-due-by-requires Inv-loop μ-loop
 due-by-requires c κs = search needs
 
 returned-one-requires : tie.Need-returned-one-requires Inv-loop μ-loop
-returned-one-requires c κs = one-asks (c .before .before .loop .w) (c .before .before .before .args .now) (c .before .before .loop .inv .0) (sym
+returned-one-requires c κs = one-asks (c .before .before .loop .w) (c .before .before .before .args .now)
+    (c .before .before .loop .inv .0) (sym
     (c .before .due-by .ensures) ∙ c .if1 .taken)
 
 loop-less : tie.Need-loop-less Inv-loop μ-loop

@@ -4,7 +4,9 @@ use lib.ListN.{drop-of-length-le, length, drop}
 use Rattle.turns.specs.Table.{seek}
 use Rattle.turns.proofs.Shift.{seek-here, seek-on}
 use borrow.Author.Needs.{needs}
-use Prim.Native.Nat.{_+_, _-_, _≤_, _<_}
+use Prim.Native.Nat.{ℕ, _+_, _-_, _≤_, _<_}
+use mathlib.Core.List.{List}
+use Rattle.units.specs.declared.Tunnel.{Tunnel}
 use native.Mathlib.Omega.{arith}
 use mathlib.Core.Path.{_≡_, ap, sym, _∙_}
 use Rattle.turns.proofs.table.find.Statement.{statement}
@@ -15,6 +17,22 @@ Inv-loop id ids k₀ k = (k ≤ 32) × (length ids ≡ 32) × (seek (id .0) ids 
 
 abbrev μ-loop : tie.MeasureT-loop
 μ-loop id ids k₀ k = 32 - k
+
+-- where the place has been compared: it is in the table
+abbrev Compared : Type 0
+Compared = tie.After-same Inv-loop μ-loop
+
+abbrev loop-at : Compared → tie.At-loop Inv-loop μ-loop
+loop-at c = c .before .before .before
+
+abbrev ids-of : Compared → List Tunnel
+ids-of c = loop-at c .before .args .t1
+
+abbrev id-of : Compared → ℕ
+id-of c = loop-at c .before .args .id .0
+
+inside : (c : Compared) → loop-at c .loop .k < length (ids-of c)
+inside c = omega (arith, loop-at c .loop .inv .1, c .before .before .loop-test .taken)
 
 loop-holds : tie.Need-loop-holds Inv-loop μ-loop
 loop-holds c = (omega arith, search needs, omega arith)
@@ -29,13 +47,12 @@ same-requires : tie.Need-same-requires Inv-loop μ-loop
 same-requires c κs = search needs
 
 returns : tie.Need-returns Inv-loop μ-loop
-returns c = let i : c .before .before .before .before .loop .k < length (c .before .before .before .before .before .args .t1) = omega
-    (arith, c .before .before .before .before .loop .inv .1, c .before .before .before .loop-test .taken) in
+returns c =
+    let b : Compared = c .before in
     omega (
       arith,
-      c .before .before .before .before .loop .inv .2,
-      seek-here (c .before .before .before .before .before .args .id .0)
-          (c .before .before .before .before .before .args .t1) (c .before .before .before .before .loop .k) i (sym (c .before .same .ensures) ∙ c .if1 .taken),
+      loop-at b .loop .inv .2,
+      seek-here (id-of b) (ids-of b) (loop-at b .loop .k) (inside b) (sym (b .same .ensures) ∙ c .if1 .taken),
     )
 
 add-k : tie.Need-add-k Inv-loop μ-loop
@@ -45,13 +62,13 @@ loop-less : tie.Need-loop-less Inv-loop μ-loop
 loop-less c = omega arith
 
 loop-again : tie.Need-loop-again Inv-loop μ-loop
-loop-again c = let i : c .before .before .before .before .loop .k < length (c .before .before .before .before .before .args .t1) = omega
-    (arith, c .before .before .before .before .loop .inv .1, c .before .before .before .loop-test .taken) in (
+loop-again c =
+    let b : Compared = c .before in
+    let i = inside b in (
       omega arith,
-      c .before .before .before .before .loop .inv .1,
-      c .before .before .before .before .loop .inv .2 ∙ seek-on
-          (c .before .before .before .before .before .args .id .0) (c .before .before .before .before .before .args .t1)
-          (c .before .before .before .before .loop .k) i (sym (c .before .same .ensures) ∙ c .if1 .left),
+      loop-at b .loop .inv .1,
+      loop-at b .loop .inv .2
+          ∙ seek-on (id-of b) (ids-of b) (loop-at b .loop .k) i (sym (b .same .ensures) ∙ c .if1 .left),
     )
 
 returns-2 : tie.Need-returns-2 Inv-loop μ-loop

@@ -18,7 +18,8 @@ abbrev μ-loop : tie.MeasureT-loop
 μ-loop at v q₀ k₀ q k = 32 - k
 
 loop-holds : tie.Need-loop-holds Inv-loop μ-loop
-loop-holds c = let i : c .args .at < length (c .args .p) = search needs in (c .pre, search needs, remove-start (c .args .at) (c .args .v) (c .args .p) i)
+loop-holds c = let i : c .args .at < length (c .args .p) = search needs in
+    (c .pre, search needs, remove-start (c .args .at) (c .args .v) (c .args .p) i)
 
 add-x : tie.Need-add-x Inv-loop μ-loop
 add-x c = search needs
