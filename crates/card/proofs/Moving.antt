@@ -4,7 +4,8 @@ use mathlib.Core.Path.{_≡_, ap, sym, _∙_}
 use mathlib.Core.List.{List, [], _∷_, _++_}
 use native.Mathlib.Omega.{arith}
 use lib.ListN.{length, take, drop, set, getD}
-use lib.Seq.{slice, slice-empty, length-slice, take-suc, drop-cons, append-snoc, drop-append-le, set-at, getD-append-add, getD-drop, length-take-le}
+use lib.Seq.{slice, slice-empty, length-slice, length-take-le, take-suc, drop-cons, append-snoc, drop-append-le}
+use lib.Seq.{set-at, getD-append-add, getD-drop}
 
 -- the bytes from `from` to k in front of l, the others of l as they are
 abbrev pub inFront : ℕ → ℕ → List ℕ → List ℕ

@@ -7,26 +7,55 @@ use lines::Served;
 use turns::Core;
 ghost use Prim.Native.Nat.{_+_, _-_, _^_, _≤_, _<_};
 ghost use mathlib.Core.Path.{_≡_};
-ghost use mathlib.Core.Bool.{true, false};
 ghost use mathlib.Core.List.{_++_};
-ghost use mathlib.Core.Option.{none};
+ghost use mathlib.Core.Logic.{_⊎_};
 ghost use lib.ListN.{length, take, drop};
 ghost use lib.Seq.{slice};
 ghost use Rattle.turns.specs.State.{ValidCore};
 ghost use Rattle.lines.specs.Text.{longest};
-ghost use Rattle.lines.specs.Serve.{serveOf};
-ghost use Rattle.card.specs.Rounds.{longestRecord, allWritten, Went};
+ghost use Rattle.card.specs.declared.Standing.the-variants.{WriteFailed};
+ghost use Rattle.card.specs.Program.{standing, servedPart, toServe, roundOf, lastBytes, Ran};
 
 // A proved loop has to end, and nothing says that the input does: the program ends where it has used so many bytes,
 // which no run does.
 const MOST_BYTES: u64 = 18446744073709000000;
 
-// The core, the place of the first byte that waits for the rest of its record, how many wait, and whether to go on.
+// Whether the program goes on, or why it ends.
+enum Standing {
+    GoesOn,
+    EndOfInput,
+    Refused,
+    ReadFailed,
+    WriteFailed,
+    ByteLimit,
+}
+
+// The core, the place of the first byte that waits for the rest of its record, how many wait, and how the program
+// stands.
 struct Round {
     core: Core,
     offset: u64,
     held: usize,
-    more: bool,
+    standing: Standing,
+}
+
+// "After 20, 21 or 22 the program stops"; "At the end of input the program asks for no further record."
+fn standing_of(written: bool, stopped: bool, last: bool, offset: u64) -> Standing
+    ensures { λ r. ⌜ r ≡ standing written stopped last offset ⌝ }
+{
+    if !written {
+        return Standing::WriteFailed;
+    }
+    if stopped {
+        return Standing::Refused;
+    }
+    if last {
+        return Standing::EndOfInput;
+    }
+    if offset >= MOST_BYTES {
+        return Standing::ByteLimit;
+    }
+    Standing::GoesOn
 }
 
 fn is_written(out: &[u8], written: usize) -> bool
@@ -39,25 +68,23 @@ fn is_written(out: &[u8], written: usize) -> bool
     ok
 }
 
-// Moves the bytes from `from` to `end` to the front, and says how many they are.
-fn moved(input: &mut [u8], from: usize, end: usize) -> usize
+// Moves the bytes from `from` to `end` to the front.
+fn move_rest(input: &mut [u8], from: usize, end: usize)
     requires { ⌜ (from ≤ end) × (end ≤ length (now input)) ⌝ }
-    ensures { λ r. ⌜ (r ≡ end - from) × (now (input .exit) ≡ slice from end (now (input .entry)) ++ drop r (now (input .entry))) ⌝ }
+    ensures { λ _. ⌜ now (input .exit) ≡ slice from end (now (input .entry)) ++ drop (end - from) (now (input .entry)) ⌝ }
 {
     let mut k = from;
     while k < end {
         input[k - from] = input[k];
         k += 1;
     }
-    end - from
 }
 
 // Writes the line of every record before `end` that can be answered, in as many goes as the room for lines asks for.
-// Where a write fails it answers `stopped`.
-fn answered(core: Core, offset: u64, input: &[u8], end: usize, last: bool, out: &mut [u8]) -> Served
+fn answered(core: Core, offset: u64, input: &[u8], end: usize, last: bool, out: &mut [u8]) -> Round
     requires { ⌜ ValidCore core × (end ≤ length (now input)) × (longest ≤ length (now out)) × (offset + end < 2 ^ 64) ⌝ }
-    ensures { λ r. ⌜ ValidCore (r .core) × (r .used ≤ end) ⌝ }
-    ensures { λ r. ⌜ (r .stopped ≡ false → r ≡ allWritten (serveOf core (take end (now (input .entry))) last none)) ⌝ }
+    ensures { λ r. ⌜ ValidCore (r .core) × (r .held ≤ end) ⌝ }
+    ensures { λ r. ⌜ (r .standing ≡ WriteFailed) ⊎ (r ≡ servedPart core offset (take end (now (input .entry))) last) ⌝ }
 {
     let mut served = Served {
         core,
@@ -70,73 +97,77 @@ fn answered(core: Core, offset: u64, input: &[u8], end: usize, last: bool, out: 
         let place = offset + used as u64;
         served = lines::serve(served.core, &input[used..end], place, last, out);
         used += served.used;
-        let stopped = !is_written(out, served.written) || served.stopped;
-        if stopped || served.used == 0 {
+        let ok = is_written(out, served.written);
+        if !ok || served.stopped || served.used == 0 {
             let core = served.core;
-            return Served {
+            let offset = offset + used as u64;
+            return Round {
                 core,
-                used,
-                written: 0,
-                stopped,
+                offset,
+                held: end - used,
+                standing: standing_of(ok, served.stopped, last, offset),
             };
         }
     }
 }
 
-// Reads once behind the bytes that wait, and answers what can be answered. There is room behind them, so that no byte
-// read means the end of the input.
-fn one_round(core: Core, offset: u64, input: &mut [u8], held: usize, out: &mut [u8]) -> Round
+// Serves what a read left behind the bytes that waited, where it answered `got`. There is room behind them, so that no
+// byte read means the end of the input. What waits then stands in front.
+fn one_round(
+    core: Core,
+    offset: u64,
+    input: &mut [u8],
+    held: usize,
+    got: isize,
+    out: &mut [u8],
+) -> Round
     requires { ⌜ ValidCore core × (held < length (now input)) × (longest ≤ length (now out)) × (offset + length (now input) < 2 ^ 64) ⌝ }
-    ensures { λ r. ⌜ ValidCore (r .core) × (r .held < longestRecord) ⌝ }
-    ensures { λ r. ⌜ (r .more ≡ true → Went core offset (take held (now (input .entry))) (now (input .exit)) r) ⌝ }
+    ensures { λ r. ⌜ ValidCore (r .core) × (take (r .held) (now (input .exit)) ≡ lastBytes (r .held) (toServe (now (input .entry)) held got)) ⌝ }
+    ensures { λ r. ⌜ (r .standing ≡ WriteFailed) ⊎ (r ≡ roundOf core offset (now (input .entry)) held got) ⌝ }
 {
-    let part = &mut input[held..];
-    let got = libc::read(STDIN_FILENO, part);
     if got < 0 {
         io::write_all(STDERR_FILENO, b"card: a read failed\n");
         return Round {
             core,
             offset,
-            held: 0,
-            more: false,
+            held,
+            standing: Standing::ReadFailed,
         };
     }
     let n = io::count(got, &input[held..]);
     let last = n == 0;
     let end = held + n;
-    let s = answered(core, offset, input, end, last, out);
-    let core = s.core;
-    if last || s.stopped {
-        return Round {
-            core,
-            offset,
-            held: 0,
-            more: false,
-        };
-    }
-    let used = s.used;
-    let rest = moved(input, used, end);
-    Round {
-        core,
-        offset: offset + used as u64,
-        held: rest,
-        more: true,
-    }
+    let r = answered(core, offset, input, end, last, out);
+    let from = end - r.held;
+    move_rest(input, from, end);
+    r
 }
 
-fn main() {
+// Reads and serves until there is a reason to end, and hands it back with what was served. The loop carries the round:
+// a local for its core would cost a copy of the table.
+fn run() -> Round
+    ensures { λ r. ⌜ ValidCore (r .core) × Ran r ⌝ }
+{
     let mut input = io::large_buffer();
     let mut out = io::large_buffer();
     let mut r = Round {
         core: Core::empty(),
         offset: 0,
         held: 0,
-        more: true,
+        standing: Standing::GoesOn,
     };
-    while r.offset < MOST_BYTES {
-        r = one_round(r.core, r.offset, &mut input, r.held, &mut out);
-        if !r.more {
-            return;
-        }
+    loop {
+        let held = r.held;
+        let part = &mut input[held..];
+        let got = libc::read(STDIN_FILENO, part);
+        r = one_round(r.core, r.offset, &mut input, held, got, &mut out);
+        let standing = r.standing;
+        let Standing::GoesOn = standing else {
+            return r;
+        };
     }
+}
+
+fn main() {
+    run();
 }

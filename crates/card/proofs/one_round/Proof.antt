@@ -1,29 +1,34 @@
--- `one_round` keeps what waits in front; where it goes on, it has read a byte, and the bytes read are those that stand behind
--- what waited. Assumes nothing.
-use Prim.Native.Nat.{_-_, _≤_}
-use mathlib.Core.Path.{sym}
-use mathlib.Core.List.{_++_}
+-- `one_round` serves what the read's answer says, and keeps in front what waits. Assumes nothing.
+use mathlib.Core.Path.{_≡_, subst}
+use mathlib.Core.Bool.{true, false}
+use mathlib.Core.Logic.{inr}
 use native.Mathlib.Omega.{arith}
-use lib.Dec.{eqb}
-use lib.ListN.{length, take, drop, length-take, length-drop}
-use borrow.Author.Tests.{eqb-false}
+use lib.IntN.{ℤ, pos}
+use lib.Signed.{ltZ}
+use mir.Syntax.{w64}
+use mir.Val.{toZ, ofZ}
+use mir.ValLaws.{toZ-ofZ}
 use borrow.Author.Needs.{needs}
-use Rattle.rules.proofs.Tests.{clash}
-use Rattle.card.proofs.Going.{went}
+use Rattle.card.proofs.Rounds.{round-failed, count-is, round-kept, round-served}
 use Rattle.card.proofs.one_round.Statement.{statement}
 use Rattle.card.proofs.one_round.Tie as tie
 
-sub-part : tie.Need-sub-part
-sub-part c = search needs
+-- the points of the program: its start, the read that did not fail, its bytes counted, and answered
+abbrev start : tie.After-slice-known2 → tie.Start
+start c = c .before .before
 
-part-part-start : tie.Need-part-part-start
-part-part-start c = search needs
+abbrev counted : tie.After-answered → tie.After-count
+counted a = a .before .before .before
 
-part-part-end : tie.Need-part-part-end
-part-part-end c = search needs
+abbrev told : tie.After-count → tie.Else1
+told n = n .before .before .before
 
-read-requires : tie.Need-read-requires
-read-requires c κs = search needs
+abbrev done : tie.After-move-rest → tie.After-answered
+done m = m .before .before .before .before .before
+
+-- a local of a signed type holds the number's bits
+bits : (c : tie.After-slice-known2) → toZ w64 (ofZ w64 (start c .args .got)) ≡ start c .args .got
+bits c = toZ-ofZ w64 (start c .args .got) (start c .fits .got)
 
 slice-aggregate-write-all : tie.Need-slice-aggregate-write-all
 slice-aggregate-write-all c = search needs
@@ -31,11 +36,15 @@ slice-aggregate-write-all c = search needs
 write-all-requires : tie.Need-write-all-requires
 write-all-requires c κs = search needs
 
-same-length : tie.Need-same-length
-same-length c = search needs
-
 returns : tie.Need-returns
-returns c = ((c .before .before .before .before .before .before .before .before .before .pre .0, omega arith), λ e. clash (sym e))
+returns c =
+    let t = c .before .before in
+    let b = t .before in
+    let a = start b .args in
+    let f =
+    round-failed (a .core) (a .offset) (a .input .now) (a .held) (a .got) (omega (arith, start b .pre .1))
+    (subst (λ (z : ℤ). ltZ z (pos 0) ≡ true) (bits b) (t .if1 .taken)) in
+    ((start b .pre .0, f .0), inr (f .1))
 
 sub-count : tie.Need-sub-count
 sub-count c = search needs
@@ -55,72 +64,43 @@ add-end c = search needs
 answered-requires : tie.Need-answered-requires
 answered-requires c κs = search needs
 
+sub-from : tie.Need-sub-from
+sub-from c = search needs
+
+move-rest-requires : tie.Need-move-rest-requires
+move-rest-requires c κs = search needs
+
+same-length : tie.Need-same-length
+same-length c = search needs
+
 same-length-2 : tie.Need-same-length-2
 same-length-2 c = search needs
 
-same-length-3 : tie.Need-same-length-3
-same-length-3 c = search needs
-
 returns-2 : tie.Need-returns-2
-returns-2 c = ((c .before .before .before .before .answered .ensures .0 .0, omega arith), λ e. clash (sym e))
-
-moved-requires : tie.Need-moved-requires
-moved-requires c κs = search needs
-
-add-t37 : tie.Need-add-t37
-add-t37 c =
-    let a = c .before .before .before .before .before .before .before .before .before in
-    let n = a .before .before .before in
-    let first = n .before .before .before .before .before .before .before .before .before .before in
-    omega (arith, a .answered .ensures .0 .1, n, first .pre .1, first .pre .3)
-
-same-length-4 : tie.Need-same-length-4
-same-length-4 c = search needs
-
-same-length-5 : tie.Need-same-length-5
-same-length-5 c = search needs
-
-returns-3 : tie.Need-returns-3
-returns-3 c =
-    let m = c .before .before .moved in
-    let more = c .before .before .before .before .before .if2 .left in
-    let goes = c .before .before .before .before .if3 .left in
-    let a = c .before .before .before .before .before .before .before .before .before in
-    let k = a .before .before .before in
-    let first = k .before .before .before .before .before .before .before .before .before .before in
-    let held = first .args .held in
-    let xs = first .args .input .now in
-    let ys = k .before .before .before .before .before .before .read .last .1 .0 in
-    let tail = drop (length xs - held) (drop held xs) in
-    let input = take held xs ++ (ys ++ tail) in
-    let n = k .count .result in
-    let read-few : n ≤ length (take (length input - held) (drop held input)) = k .count .ensures .0 .0 in
-    let few : n ≤ length ys =
-    omega (
-      arith,
-      read-few,
-      k .before .before .before .before .before .input .given,
-      length-take (length input - held) (drop held input),
-      length-drop held input,
-      length-take (length xs - held) (drop held xs),
-      length-drop held xs,
-    ) in
-    let w =
-    went (first .args .core) xs ys tail held n (omega (arith, first .pre .1)) few (first .args .offset) (eqb n 0) (a .answered .result)
-    (m .result) (m .last .0) (omega (arith, eqb-false n 0 more)) more goes (a .answered .ensures .1 goes) (m .ensures .0) (m .ensures .1) in
-    ((a .answered .ensures .0 .0, omega (arith, w .0)), λ e. w .1)
+returns-2 c =
+    let m = c .before .before in
+    let d = done m in
+    let k = counted d in
+    let b = told k .before in
+    let a = start b .args in
+    let low = start b .pre .1 in
+    let n =
+    count-is (a .input .now) (a .held) (a .got) (toZ w64 (ofZ w64 (a .got))) (k .count .result) (bits b) (k .count .ensures .1) in (
+      (
+        d .answered .ensures .0 .0,
+        round-kept (a .core) (a .offset) (a .input .now) (a .held) (a .got) (k .count .result) (m .move-rest .last .0)
+            (d .answered .result .held) low n (d .answered .ensures .0 .1) (m .move-rest .ensures),
+      ),
+      round-served (a .core) (a .offset) (a .input .now) (a .held) (a .got) (k .count .result) (d .answered .result)
+          low n (subst (λ (z : ℤ). ltZ z (pos 0) ≡ false) (bits b) (told k .if1 .left)) (d .answered .ensures .1),
+    )
 
 pub one-round-spec : {M : Type 1} → statement M
 one-round-spec =
     tie.close
     (tie.spec
-    sub-part
-    part-part-start
-    part-part-end
-    read-requires
     slice-aggregate-write-all
     write-all-requires
-    same-length
     returns
     sub-count
     part-count-start
@@ -128,11 +108,8 @@ one-round-spec =
     count-requires
     add-end
     answered-requires
+    sub-from
+    move-rest-requires
+    same-length
     same-length-2
-    same-length-3
-    returns-2
-    moved-requires
-    add-t37
-    same-length-4
-    same-length-5
-    returns-3)
+    returns-2)

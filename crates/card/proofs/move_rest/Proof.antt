@@ -1,4 +1,4 @@
--- `moved` keeps the bytes that it has not moved yet, and the length. Assumes nothing.
+-- `move_rest` keeps the bytes that it has not moved yet, and the length. Assumes nothing.
 use Prim.Native.Nat.{ℕ, _-_, _≤_}
 use mathlib.Core.Path.{_≡_, refl, ap, _∙_}
 use native.Mathlib.Omega.{arith}
@@ -6,8 +6,8 @@ use mathlib.Core.List.{List}
 use lib.ListN.{length, set, getD, length-set}
 use borrow.Author.Needs.{needs}
 use Rattle.card.proofs.Moving.{inFront, none-moved, one-moved}
-use Rattle.card.proofs.moved.Statement.{statement}
-use Rattle.card.proofs.moved.Tie as tie
+use Rattle.card.proofs.move_rest.Statement.{statement}
+use Rattle.card.proofs.move_rest.Tie as tie
 
 abbrev Inv-loop : tie.InvT-loop
 Inv-loop input₀ from end k₀ input k = (from ≤ k) × (k ≤ end) × (length input ≡ length input₀) × (input ≡ inFront from k input₀)
@@ -44,9 +44,6 @@ loop-again c =
       ap (λ (xs : List ℕ). set xs (l .k - from) (getD xs (l .k) 0)) (l .inv .3) ∙ one-moved from (l .k) first (omega arith) (omega arith),
     )
 
-sub-result : tie.Need-sub-result Inv-loop μ-loop
-sub-result c = search needs
-
 same-length : tie.Need-same-length Inv-loop μ-loop
 same-length c = omega (arith, c .before .loop .inv)
 
@@ -55,10 +52,10 @@ returns c =
     let l = c .before .loop in
     let from = c .before .before .args .from in
     let last : l .k ≡ c .before .before .args .end = omega arith in
-    (refl, l .inv .3 ∙ ap (λ (n : ℕ). inFront from n (c .before .before .args .input .now)) last)
+    l .inv .3 ∙ ap (λ (n : ℕ). inFront from n (c .before .before .args .input .now)) last
 
-pub moved-spec : {M : Type 1} → statement M
-moved-spec =
+pub move-rest-spec : {M : Type 1} → statement M
+move-rest-spec =
     tie.close
     (tie.spec
     Inv-loop
@@ -70,6 +67,5 @@ moved-spec =
     add-k
     loop-less
     loop-again
-    sub-result
     same-length
     returns)

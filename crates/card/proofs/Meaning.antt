@@ -1,0 +1,147 @@
+-- What a run means follows from what `run` promises. Assumes nothing.
+use Prim.Native.Nat.{ℕ, _+_, _≤_}
+use mathlib.Core.Path.{_≡_, refl, ap, sym, _∙_, subst}
+use mathlib.Core.Bool.{Bool, true, false, cond}
+use mathlib.Core.List.{List, [], _∷_, _++_, append-nil}
+use mathlib.Core.Logic.{_⊎_, inl, inr}
+use mathlib.Core.Option.{none}
+use native.Mathlib.Omega.{arith}
+use lib.Dec.{leb, eqb}
+use lib.IntN.{ℤ, pos, negsuc}
+use lib.ListN.{length, take, length-take}
+use Rattle.io.specs.Counts.{clamped}
+use Rattle.libc.specs.Io.{Moved}
+use Rattle.rules.proofs.Tests.{clash}
+use Rattle.turns.specs.State.{made}
+use Rattle.lines.specs.Serve.{Run, serveOf}
+use Rattle.lines.proofs.Rest.{all-used}
+use Rattle.card.specs.declared.Standing.{Standing}
+use Rattle.card.specs.declared.Standing.the-variants.{GoesOn, EndOfInput, Refused, ReadFailed, WriteFailed, ByteLimit}
+use Rattle.card.specs.declared.Round.{Round}
+use Rattle.card.specs.Program.{mostBytes, standing, Read, brought, came, afterRead, afterReads, EachGoesOn, Ran}
+use Rattle.card.specs.Meaning.{isZero, atEnd, whole, Meaning}
+use Rattle.card.proofs.Runs.{number, goes-when, SoFar, so-far}
+
+refused-stops : (stopped last : Bool) (offset : ℕ) → standing true stopped last offset ≡ Refused → stopped ≡ true
+refused-stops true last offset h = refl
+refused-stops false true offset h = absurd (omega (arith, ap number h))
+refused-stops false false offset h = go (leb mostBytes offset) h
+  where
+    go : (t : Bool) → cond t ByteLimit GoesOn ≡ Refused → false ≡ true
+    go true h = absurd (omega (arith, ap number h))
+    go false h = absurd (omega (arith, ap number h))
+
+end-last : (stopped last : Bool) (offset : ℕ) → standing true stopped last offset ≡ EndOfInput → (last ≡ true) × (stopped ≡ false)
+end-last true last offset h = absurd (omega (arith, ap number h))
+end-last false true offset h = (refl, refl)
+end-last false false offset h = go (leb mostBytes offset) h
+  where
+    go : (t : Bool) → cond t ByteLimit GoesOn ≡ EndOfInput → (false ≡ true) × (_≡_ {A = Bool} false false)
+    go true h = absurd (omega (arith, ap number h))
+    go false h = absurd (omega (arith, ap number h))
+
+-- at the end of the input all bytes are used, or it was refused
+end-used : (s : List ℕ) (last : Bool) → last ≡ true → serveOf (made []) s last none .stopped ≡ false
+    → serveOf (made []) s last none .used ≡ length s
+end-used s false e n = clash (sym e)
+end-used s true e n = each (all-used (made []) s)
+  where
+    each : (serveOf (made []) s true none .stopped ≡ true) ⊎ (serveOf (made []) s true none .used ≡ length s)
+        → serveOf (made []) s true none .used ≡ length s
+    each (inl h) = clash (sym h ∙ n)
+    each (inr h) = h
+
+-- what a round that no failed write ended means, of all bytes s
+record Means (s : List ℕ) (last : Bool) (r : Round) : Type 0 where
+  core-is : r .core ≡ serveOf (made []) s last none .core
+  used-is : r .offset ≡ serveOf (made []) s last none .used
+  refused : r .standing ≡ Refused → serveOf (made []) s last none .stopped ≡ true
+  stops : serveOf (made []) s last none .stopped ≡ true → r .standing ≡ Refused
+  at-end : r .standing ≡ EndOfInput → (last ≡ true) × (serveOf (made []) s last none .stopped ≡ false) × (r .offset ≡ length s)
+
+so-far-means : (s : List ℕ) (r : Round) (how : Standing) → SoFar s r → (how ≡ Refused → ⊥) → (how ≡ EndOfInput → ⊥)
+    → Means s false (record { core = r .core; offset = r .offset; held = r .held; standing = how })
+so-far-means s r how f not-refused not-ended =
+    record {
+      core-is = sym (f .core-is);
+      used-is = sym (f .used-is);
+      refused = λ h. absurd (not-refused h);
+      stops = λ h. clash (sym h ∙ f .goes);
+      at-end = λ h. absurd (not-ended h);
+    }
+
+read-means : (got : ℤ) (part s : List ℕ) (before : Round) → SoFar s before
+    → Means (s ++ take (clamped got (length part)) part) (isZero got) (afterRead got (s ++ take (clamped got (length part)) part) before)
+read-means (negsuc k) part s before f =
+    so-far-means (s ++ []) before ReadFailed (subst (λ (l : List ℕ). SoFar l before) (sym (append-nil s)) f)
+    (λ h. omega (arith, ap number h)) (λ h. omega (arith, ap number h))
+read-means (pos k) part s before f =
+    let all : List ℕ = s ++ take (clamped (pos k) (length part)) part in
+    let run : Run = serveOf (made []) all (eqb k 0) none in
+    record {
+      core-is = refl;
+      used-is = omega arith;
+      refused = refused-stops (run .stopped) (eqb k 0) (0 + run .used);
+      stops = λ h. ap (λ (t : Bool). standing true t (eqb k 0) (0 + run .used)) h;
+      at-end = λ h.
+          let e = end-last (run .stopped) (eqb k 0) (0 + run .used) h in
+          (e .0, e .1, omega (arith, end-used all (eqb k 0) (e .0) (e .1)));
+    }
+
+after-means : (reads : List Read) → EachGoesOn reads → Means (came reads) (atEnd reads) (afterReads reads)
+after-means [] e =
+    so-far-means [] (afterReads []) GoesOn (so-far [] refl) (λ h. omega (arith, ap number h)) (λ h. omega (arith, ap number h))
+after-means (x ∷ before) e = read-means (x .got) (x .part) (came before) (afterReads before) (so-far before (e .0))
+
+-- where the program goes on, the input has not ended and was not refused
+goes-more : (got : ℤ) (s : List ℕ) (before : Round) → afterRead got s before .standing ≡ GoesOn → isZero got ≡ false
+goes-more (pos k) s before h =
+    let run : Run = serveOf (made []) s (eqb k 0) none in
+    goes-when (run .stopped) (eqb k 0) (0 + run .used) h .1
+goes-more (negsuc k) s before h = absurd (omega (arith, ap number h))
+
+goes-means : (reads : List Read) → afterReads reads .standing ≡ GoesOn → (whole reads .stopped ≡ false) × (atEnd reads ≡ false)
+goes-means reads h =
+    let e : atEnd reads ≡ false = end reads h in
+    (ap (λ (t : Bool). serveOf (made []) (came reads) t none .stopped) e ∙ so-far reads h .goes, e)
+  where
+    end : (reads : List Read) → afterReads reads .standing ≡ GoesOn → atEnd reads ≡ false
+    end [] h = refl
+    end (x ∷ before) h = goes-more (x .got) (came (x ∷ before)) (afterReads before) h
+
+earlier : (later : List Read) (x : Read) (before : List Read) → EachGoesOn (later ++ (x ∷ before)) → afterReads before .standing ≡ GoesOn
+earlier [] x before e = e .0
+earlier (y ∷ later) x before e = earlier later x before (e .1)
+
+no-more : (reads : List Read) → EachGoesOn reads → (later : List Read) (x : Read) (before : List Read) → reads ≡ later ++ (x ∷ before)
+    → (whole before .stopped ≡ false) × (atEnd before ≡ false)
+no-more reads e later x before h = goes-means before (earlier later x before (subst EachGoesOn h e))
+
+brings : (x : Read) (k : ℕ) → x .got ≡ pos k → length (brought x) ≡ k
+brings x k e =
+    let few : k ≤ length (x .part) = subst (Moved (length (x .part))) e (x .in-room) in
+    ap (λ (z : ℤ). length (take (clamped z (length (x .part))) (x .part))) e
+    ∙ omega (arith, length-take (clamped (pos k) (length (x .part))) (x .part))
+
+pub meaning : (r : Round) (n : Ran r) → Meaning r (n .reads)
+meaning r n = go (n .served)
+  where
+    go : (r .standing ≡ WriteFailed) ⊎ (r ≡ afterReads (n .reads)) → Meaning r (n .reads)
+    go (inl w) =
+        record {
+          all-brought = brings;
+          every-byte = λ h. absurd (h w);
+          refused = λ h. absurd (h w);
+          end-of-input = λ h. absurd (omega (arith, ap number (sym w ∙ h)));
+          no-more-reads = no-more (n .reads) (n .each-goes-on);
+        }
+    go (inr e) =
+        let m : Means (came (n .reads)) (atEnd (n .reads)) r =
+        subst (Means (came (n .reads)) (atEnd (n .reads))) (sym e) (after-means (n .reads) (n .each-goes-on)) in
+        record {
+          all-brought = brings;
+          every-byte = λ h. (m .core-is, m .used-is);
+          refused = λ h. (m .refused, m .stops);
+          end-of-input = m .at-end;
+          no-more-reads = no-more (n .reads) (n .each-goes-on);
+        }
