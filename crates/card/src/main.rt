@@ -101,10 +101,11 @@ fn answered(core: Core, offset: u64, input: &[u8], end: usize, last: bool, out: 
         if !ok || served.stopped || served.used == 0 {
             let core = served.core;
             let offset = offset + used as u64;
+            let held = end - used;
             return Round {
                 core,
                 offset,
-                held: end - used,
+                held,
                 standing: standing_of(ok, served.stopped, last, offset),
             };
         }

@@ -82,8 +82,8 @@ add-offset c =
     let s = joined (c .before) in
     omega (arith, serve-used s, start (top s) .pre .3)
 
-sub-t26 : tie.Need-sub-t26 Inv-loop μ-loop
-sub-t26 c = omega (arith, serve-used (joined (c .before)))
+sub-held : tie.Need-sub-held Inv-loop μ-loop
+sub-held c = omega (arith, serve-used (joined (c .before)))
 
 standing-of-requires : tie.Need-standing-of-requires Inv-loop μ-loop
 standing-of-requires c κs = search needs
@@ -139,7 +139,7 @@ answered-spec =
     add-used
     is-written-requires
     add-offset
-    sub-t26
+    sub-held
     standing-of-requires
     same-length
     returns
