@@ -68,13 +68,15 @@ row-many ps es h =
 
 pub row-unpaired : (ps es : List ℕ) → (length ps ≡ length es → ⊥) → 30 ≡ tasksRow ps es
 row-unpaired ps es h =
-    let m : miscounted ps es ≡ true = or-right (not (within (length ps) 16)) (not (eqb (length ps) (length es))) (rw (ne-eqb (length ps) (length es) h)) in
+    let m : miscounted ps es ≡ true =
+    or-right (not (within (length ps) 16)) (not (eqb (length ps) (length es))) (rw (ne-eqb (length ps) (length es) h)) in
     sym (by-count ps es ∙ rw m)
 
 module _ (ps es : List ℕ) (some-task : 1 ≤ length ps) (few : length ps ≤ 16) (paired : length ps ≡ length es) where
   counted : tasksRow ps es ≡ late ps es
   counted =
-      let m : miscounted ps es ≡ false = rw (le-leb 1 (length ps) some-task) (rw (le-leb (length ps) 16 few) (rw (eq-eqb (length ps) (length es) paired))) in
+      let m : miscounted ps es ≡ false =
+      rw (le-leb 1 (length ps) some-task) (rw (le-leb (length ps) 16 few) (rw (eq-eqb (length ps) (length es) paired))) in
       by-count ps es ∙ rw m
 
   pub row-range : 0 < first (outOfRange ps es) (length ps) → 31 ≡ tasksRow ps es
@@ -113,7 +115,8 @@ module _ (ps es : List ℕ) (m : miscounted ps es ≡ false)
       no-fall : (i : ℕ) → suc i < length ps → getD ps i 0 ≤ getD ps (suc i) 0
       no-fall i h =
           let e : suc i - 1 ≡ i = omega arith in
-          let t : ltb (getD ps (suc i) 0) (getD ps (suc i - 1) 0) ≡ false = sym (fall-at ps (suc i) (omega arith)) ∙ f (suc i + 1) (omega arith) (omega arith) in
+          let t : ltb (getD ps (suc i) 0) (getD ps (suc i - 1) 0) ≡ false =
+          sym (fall-at ps (suc i) (omega arith)) ∙ f (suc i + 1) (omega arith) (omega arith) in
           ltb-false _ _ (rw e at t)
 
 pub tasks-fit : (ps es : List ℕ) → tasksRow ps es ≡ 0 → Tasks ps es

@@ -70,7 +70,8 @@ returns : tie.Need-returns
 unfolding bestReply
 returns c =
     let k = c .before .before in
-    refused-row (ps k) (es k) _ (k .tasks-row .result) (c .refusal .result) (k .tasks-row .ensures) (c .before .if1 .taken) (c .refusal .ensures)
+    refused-row (ps k) (es k) _ (k .tasks-row .result) (c .refusal .result) (k .tasks-row .ensures) (c .before .if1 .taken)
+    (c .refusal .ensures)
 
 is-within-requires : tie.Need-is-within-requires
 is-within-requires c κs = search needs
@@ -121,9 +122,10 @@ returns-3 : tie.Need-returns-3
 unfolding bestReply
 returns-3 c =
     let s = c .before .before in
-    let k = known (at s) in
+    let h = at s in
+    let k = known h in
     let e = searched s .best-share .ensures in
-    refused-34 (ps k) (es k) (no-row (tested (at s))) _ (within (P k) 2000) (bestOf (ps k) (es k) (P k) .budget) (c .refusal3 .result) (fits (at s))
+    refused-34 (ps k) (es k) (no-row (tested h)) _ (within (P k) 2000) (bestOf (ps k) (es k) (P k) .budget) (c .refusal3 .result) (fits h)
     (ap (λ (x : Share). x .budget) (sym e) ∙ c .before .if3 .taken) (c .refusal3 .ensures)
 
 returns-4 : tie.Need-returns-4

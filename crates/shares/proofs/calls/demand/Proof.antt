@@ -51,7 +51,8 @@ returns : tie.Need-returns
 unfolding demandReply
 returns c =
     let k = c .before .before in
-    refused-row (ps k) (es k) _ (k .tasks-row .result) (c .refusal .result) (k .tasks-row .ensures) (c .before .if1 .taken) (c .refusal .ensures)
+    refused-row (ps k) (es k) _ (k .tasks-row .result) (c .refusal .result) (k .tasks-row .ensures) (c .before .if1 .taken)
+    (c .refusal .ensures)
 
 refusal-requires-2 : tie.Need-refusal-requires-2
 refusal-requires-2 c κs = search needs
@@ -60,7 +61,8 @@ returns-2 : tie.Need-returns-2
 returns-2 c =
     let h = c .before .before in
     let k = h .before in
-    refused (c .refusal2 .result) 35 (c .refusal2 .ensures) ∙ sym (demand-long (ps k) (es k) (no-row h) (i k) (t k) (c .before .if2 .taken))
+    refused (c .refusal2 .result) 35 (c .refusal2 .ensures)
+    ∙ sym (demand-long (ps k) (es k) (no-row h) (i k) (t k) (c .before .if2 .taken))
 
 refusal-requires-3 : tie.Need-refusal-requires-3
 refusal-requires-3 c κs = search needs

@@ -71,7 +71,8 @@ returns : tie.Need-returns
 unfolding leastReply
 returns c =
     let k = c .before .before in
-    refused-row (ps k) (es k) _ (k .tasks-row .result) (c .refusal .result) (k .tasks-row .ensures) (c .before .if1 .taken) (c .refusal .ensures)
+    refused-row (ps k) (es k) _ (k .tasks-row .result) (c .refusal .result) (k .tasks-row .ensures) (c .before .if1 .taken)
+    (c .refusal .ensures)
 
 is-within-requires : tie.Need-is-within-requires
 is-within-requires c κs = search needs
@@ -110,8 +111,11 @@ least-under-requires c κs =
       le-refl (P k),
     )
 
-found : (c : tie.After-least-under) → leastOf (P (known (home (c .before)))) (ps (known (home (c .before)))) (es (known (home (c .before))))
-    ≡ c .least-under .result
+-- the least budget of what is asked
+abbrev least : tie.Else2 → ℕ
+least h = leastOf (P (known h)) (ps (known h)) (es (known h))
+
+found : (c : tie.After-least-under) → least (home (c .before)) ≡ c .least-under .result
 unfolding leastOf
 found c = sym (c .least-under .ensures)
 
@@ -124,7 +128,7 @@ returns-3 c =
     let s = c .before .before in
     let h = home (s .before) in
     let k = known h in
-    refused-34 (ps k) (es k) (no-row (tested h)) _ (within (P k) 2000) (leastOf (P k) (ps k) (es k)) (c .refusal3 .result) (fits h)
+    refused-34 (ps k) (es k) (no-row (tested h)) _ (within (P k) 2000) (least h) (c .refusal3 .result) (fits h)
     (found s ∙ c .before .if3 .taken) (c .refusal3 .ensures)
 
 returns-4 : tie.Need-returns-4
@@ -132,9 +136,9 @@ unfolding leastReply
 returns-4 c =
     let h = home (c .before .before) in
     let k = known h in
-    let least = leastOf (P k) (ps k) (es k) in
-    ap (λ (n : ℕ). gives (n ∷ [])) (sym (found (c .before)))
-    ∙ given (ps k) (es k) (no-row (tested h)) (least ∷ []) (within (P k) 2000) least (fits h) (λ z. c .if3 .left (sym (found (c .before)) ∙ z))
+    let e = sym (found (c .before)) in
+    ap (λ (n : ℕ). gives (n ∷ [])) e
+    ∙ given (ps k) (es k) (no-row (tested h)) (least h ∷ []) (within (P k) 2000) (least h) (fits h) (λ z. c .if3 .left (e ∙ z))
 
 pub least-spec : {M : Type 1} → statement M
 least-spec =

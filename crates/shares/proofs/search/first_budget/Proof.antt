@@ -146,7 +146,9 @@ abbrev next : At → ℕ
 next l = leapOf (leaps l) (l .lengths .i) (demanded l) (waits l)
 
 skipped : (l : At) → NoneBetween (ps l) (es l) (l .lengths .i) (l .lengths .t) (next l) (waits l)
-skipped l = leap-none (ps l) (es l) (leaps l) (l .lengths .i) (l .lengths .t) (waits l) (ready l .tasks) (some-task l) (ready l .leaps-table)
+skipped l =
+    let r = ready l in
+    leap-none (ps l) (es l) (leaps l) (l .lengths .i) (l .lengths .t) (waits l) (r .tasks) (some-task l) (r .leaps-table)
 
 -- what the code has in hand: the demand, what it waits, and the next length
 waits-is : (l : At) (d s : ℕ) → d ≡ getD (start l .args .demands .now) (l .lengths .t * 16 + l .lengths .i) 0
@@ -283,11 +285,12 @@ lengths-again :
 lengths-again c =
     let l = here (c .before) in
     let s = start l in
-    let e = next-here (c .before) in (
+    let e = next-here (c .before) in
+    let inside = subst (λ (u : ℕ). u ≤ getD (ps l) (l .lengths .i) 0) e (c .if3 .left) in
+    let on = subst (λ (u : ℕ). l .lengths .t ≤ u) e (omega (arith, onward (c .before))) in (
       subst (λ (u : ℕ). Walk (ps l) (es l) (s .args .p) (s .args .from) (l .lengths .b) (l .lengths .i) u) (sym e)
-          (walk-jump (ps l) (es l) (ready l .tasks) (s .args .p) (s .args .from) (s .pre .1 .0) (l .lengths .b) (l .lengths .i) (l .lengths .t)
-          (most l) (some-task l) (l .lengths .inv .0) (next l) (skipped l) (subst (λ (u : ℕ). u ≤ getD (ps l) (l .lengths .i) 0) e (c .if3 .left))
-          (subst (λ (u : ℕ). l .lengths .t ≤ u) e (omega (arith, onward (c .before))))),
+          (walk-jump (ps l) (es l) (ready l .tasks) (s .args .p) (s .args .from) (s .pre .1 .0) (l .lengths .b) (l .lengths .i)
+          (l .lengths .t) (most l) (some-task l) (l .lengths .inv .0) (next l) (skipped l) inside on),
       l .lengths .inv .1,
     )
 
@@ -304,8 +307,8 @@ returns-2 c =
     let s = began (of-tasks (c .before)) in
     let a = s .args in
     let w = c .before .tasks in
-    walk-found (a .periods .now) (a .costs .now) (s .pre .0 .tasks) (a .p) (a .from) (s .pre .1 .0) (a .to) (w .b) (w .i) (w .t) (w .inv .0)
-    (w .inv .1 .0) (s .pre .1 .1) (c .tasks-test .left)
+    walk-found (a .periods .now) (a .costs .now) (s .pre .0 .tasks) (a .p) (a .from) (s .pre .1 .0) (a .to) (w .b) (w .i) (w .t)
+    (w .inv .0) (w .inv .1 .0) (s .pre .1 .1) (c .tasks-test .left)
 
 pub first-budget-spec : {M : Type 1} → statement M
 first-budget-spec =
