@@ -6,6 +6,7 @@ mod generator;
 mod lines;
 mod plain;
 mod records;
+mod sizing;
 mod twin;
 
 use call::Scheduler;
@@ -17,7 +18,9 @@ use std::os::fd::AsFd;
 const USAGE: &str = "usage: bench COMMAND
   calls plain|twin      the program `pace` in place: its fifteen digits from standard input
   card plain|twin       the program `card` in place: event records to lines
-  records N MIX CALLS   the calls of `calls` as event records (MIX: 0 mixed, 1 busy)";
+  records N MIX CALLS   the calls of `calls` as event records (MIX: 0 mixed, 1 busy)
+  sizing twin           the program `sizing` in place: best queries alone
+  time-sizing PROGRAM [--seed S] [--families N] [--changes N] [--rounds N] [--plain S] [--full 1]";
 
 /// The fifteen digits: four for the VCPUs, one for the mix, ten for the calls.
 fn asked() -> Option<Plan> {
@@ -65,6 +68,8 @@ fn run(words: &[&str]) -> io::Result<()> {
         ["card", "plain"] => card(plain::Core::empty()),
         ["card", "twin"] => card(twin::Core::empty()),
         ["records", numbers @ ..] => records(numbers),
+        ["sizing", "twin"] => sizing::answer(),
+        ["time-sizing", options @ ..] => sizing::time(options, USAGE),
         _ => Err(io::Error::other(USAGE)),
     }
 }

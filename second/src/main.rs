@@ -1,38 +1,29 @@
 //! The second program: an independent reading of the scope paper, and what compares
 //! the proved programs with it.
 
-mod bad_lists;
-mod bench_sizing;
 mod card_cases;
 mod compare_card;
 mod compare_sizing;
 mod endings;
 mod generate;
 mod lines;
-mod options;
 mod outside;
 mod picture;
-mod pipe;
-mod plain_work;
 mod queries;
 mod query_cases;
-mod random;
 mod reached;
 mod records;
-mod refusal;
-mod shares;
 mod sizing;
 mod turns;
-mod twin;
 mod words;
 
 use options::Options;
+use second::{options, pipe, random, refusal, shares};
 use std::io::{self, Read, Write};
 
 const USAGE: &str = "usage: second COMMAND
 from standard input to standard output:
   sizing      queries to answers, by the plain reading
-  twin        best queries alone, by the fast algorithm
   card        event records to lines
   words       records in words to bytes
   unwords     bytes to records in words
@@ -40,7 +31,6 @@ with the program to try:
   compare-sizing PROGRAM [--seed S] [--count N] [--list 1]
   compare-card PROGRAM [--seed S] [--records N] [--list 1]
   outside PROGRAM [--seed S] [--runs N]
-  bench-sizing PROGRAM [--seed S] [--families N] [--changes N] [--rounds N] [--plain S] [--full 1]
 a picture of records in words, from standard input to standard output:
   picture PROGRAM
 one run of a comparison, as records:
@@ -63,7 +53,7 @@ fn main() {
 
 fn run(command: &str, options: &Options) -> Result<(), String> {
     match command {
-        "compare-sizing" | "compare-card" | "outside" | "bench-sizing" => {
+        "compare-sizing" | "compare-card" | "outside" => {
             println!("{}", try_program(command, options)?);
             Ok(())
         }
@@ -78,7 +68,6 @@ fn filter(command: &str) -> io::Result<Result<(), String>> {
     let (input, mut output) = (io::stdin().lock(), io::stdout().lock());
     match command {
         "sizing" => sizing::run(input, output)?,
-        "twin" => twin::run(input, output)?,
         "card" => lines::run(input, output)?,
         "words" => match words::to_records(&io::read_to_string(input)?) {
             Ok(bytes) => output.write_all(&bytes)?,
@@ -106,19 +95,10 @@ fn try_program(command: &str, options: &Options) -> Result<String, String> {
             let records = options.number("records", RECORDS);
             compare_card::run(&compare_card::Plan { program, seed, records, list })
         }
-        "outside" => {
+        _ => {
             let runs = options.number("runs", 10_000);
             outside::run(&outside::Plan { program, seed, runs })
         }
-        _ => bench_sizing::run(&bench_sizing::Plan {
-            program,
-            seed,
-            families: options.number("families", 500),
-            changes: options.number("changes", 200),
-            rounds: options.number("rounds", 15),
-            plain: options.number("plain", 6),
-            full: options.number("full", 0) != 0,
-        }),
     }
 }
 

@@ -1,8 +1,8 @@
 //! How many steps the plain reading of the best interface takes, counted without
 //! taking them: one for each length tried and one for each term of a demand.
 
-use crate::bad_lists::List;
-use crate::twin::{demand_table, waited, WIDTH};
+use super::bad_lists::List;
+use super::twin::{demand_table, waited, WIDTH};
 
 /// The first t from `from` to the task's period with supply at least demand.
 fn first_length(table: &[u16], i: usize, p: u32, b: u32, from: u32, period: u32) -> Option<u32> {
@@ -51,8 +51,8 @@ pub fn plain_work(list: &List, p_max: u32) -> u64 {
 #[cfg(test)]
 mod tests {
     use super::*;
-    use crate::bad_lists;
-    use crate::random::Random;
+    use crate::sizing::bad_lists;
+    use second::random::Random;
 
     fn supply(p: u32, b: u32, t: u32) -> u32 {
         let g = p - b;

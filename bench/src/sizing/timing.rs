@@ -1,11 +1,11 @@
-//! `bench-sizing`: the best interface on the worst lists found, by the given program, by
+//! `time-sizing`: the best interface on the worst lists found, by the given program, by
 //! the same algorithm here and by the plain reading.
 
-use crate::bad_lists::{self, List, P_MAX};
-use crate::pipe;
-use crate::plain_work::plain_work;
-use crate::shares::{self, Tasks};
-use crate::twin;
+use super::bad_lists::{self, List, P_MAX};
+use super::plain_work::plain_work;
+use super::twin;
+use second::pipe;
+use second::shares::{self, Tasks};
 use std::hint::black_box;
 use std::time::Instant;
 
@@ -44,7 +44,11 @@ fn program_run(program: &str, query: &str, times: u64) -> Result<(f64, Vec<u8>),
 fn twin_run(list: &List, times: u64) -> f64 {
     seconds(|| {
         for _ in 0..times {
-            black_box(twin::best(black_box(&list.periods), black_box(&list.costs), black_box(P_MAX)));
+            black_box(twin::best(
+                black_box(&list.periods),
+                black_box(&list.costs),
+                black_box(P_MAX),
+            ));
         }
     })
 }
@@ -55,7 +59,10 @@ fn wide(list: &[u32]) -> Vec<u64> {
 
 fn plain_run(list: &List, p_max: u32) -> f64 {
     let (periods, costs) = (wide(&list.periods), wide(&list.costs));
-    let tasks = Tasks { periods: &periods, costs: &costs };
+    let tasks = Tasks {
+        periods: &periods,
+        costs: &costs,
+    };
     seconds(|| {
         black_box(shares::best(black_box(tasks), black_box(u64::from(p_max)))).ok();
     })
@@ -100,7 +107,10 @@ fn time_plain(plan: &Plan, list: &List) -> f64 {
     loop {
         let (work, taken) = (plain_work(list, p_max), plain_run(list, p_max));
         let step = taken / work as f64;
-        println!("    P_max {p_max:>4}: {work:>14} steps {taken:>9.3} s {:>6.3} ns a step", step * 1e9);
+        println!(
+            "    P_max {p_max:>4}: {work:>14} steps {taken:>9.3} s {:>6.3} ns a step",
+            step * 1e9
+        );
         least = least.min(step);
         if p_max == P_MAX || p_max >= 80 && !plan.full && taken * 8.0 > plan.plain as f64 {
             break;
@@ -121,7 +131,12 @@ fn time_list(plan: &Plan, name: &str, list: &List) -> Result<Row, String> {
     println!("  {}", list.query(P_MAX));
     let (program, twin) = time_fast(plan, list)?;
     let plain = time_plain(plan, list);
-    Ok(Row { lengths, program, twin, plain })
+    Ok(Row {
+        lengths,
+        program,
+        twin,
+        plain,
+    })
 }
 
 /// Lists that are hard for the plain reading, whatever they cost the fast search.
@@ -165,7 +180,11 @@ pub fn run(plan: &Plan) -> Result<String, String> {
     let start = Instant::now();
     let found = bad_lists::search(plan.seed, plan.families, plan.changes, &bad_lists::known());
     let tried = plan.families + plan.changes * found.len() as u64;
-    println!("searched {tried} lists in {:.1} s, seed {}", start.elapsed().as_secs_f64(), plan.seed);
+    println!(
+        "searched {tried} lists in {:.1} s, seed {}",
+        start.elapsed().as_secs_f64(),
+        plan.seed
+    );
     let mut rows = Vec::new();
     for (place, (_, list)) in found.iter().take(3).enumerate() {
         let name = format!("worst {}", place + 1);
@@ -173,12 +192,15 @@ pub fn run(plan: &Plan) -> Result<String, String> {
         rows.push((name, row));
     }
     let hard = hard_for_plain();
-    rows.push(("long periods".to_string(), time_list(plan, "long periods", &hard)?));
+    rows.push((
+        "long periods".to_string(),
+        time_list(plan, "long periods", &hard)?,
+    ));
     table(&rows);
     println!("{}", small_stack(&plan.program, &found[0].1)?);
     let worst = &rows[0].1;
     Ok(format!(
-        "bench-sizing: worst list {:.3} ms, plain/proved {:.0}, proved/twin {:.2}",
+        "time-sizing: worst list {:.3} ms, plain/proved {:.0}, proved/twin {:.2}",
         worst.program * 1e3,
         worst.plain / worst.program,
         worst.program / worst.twin

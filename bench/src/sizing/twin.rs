@@ -1,5 +1,5 @@
-//! The twin: the fast algorithm for the best interface, in place, in u32. It is here
-//! for the benchmark only; the tests hold it against the plain reading.
+//! The algorithm of the crate `shares` for the best interface, in place, in u32. The tests
+//! hold it against the plain reading.
 
 use std::io::{self, BufRead, Write};
 
@@ -71,8 +71,18 @@ pub struct Search<'a, C: Count> {
 }
 
 impl<'a, C: Count> Search<'a, C> {
-    pub fn new(periods: &'a [u32], demands: &'a [u16], leaps: &'a [u16], count: C) -> Search<'a, C> {
-        Search { periods, demands, leaps, count }
+    pub fn new(
+        periods: &'a [u32],
+        demands: &'a [u16],
+        leaps: &'a [u16],
+        count: C,
+    ) -> Search<'a, C> {
+        Search {
+            periods,
+            demands,
+            leaps,
+            count,
+        }
     }
 
     #[inline(always)]
@@ -178,7 +188,10 @@ pub fn lengths(periods: &[u32], costs: &[u32], p_max: u32) -> u64 {
 
 /// The answer to a line `best PMAX p e p e ..` of valid numbers; nothing is checked.
 fn answer(line: &str) -> Option<String> {
-    let numbers = line.strip_prefix("best ")?.split(' ').map(|field| field.parse().ok());
+    let numbers = line
+        .strip_prefix("best ")?
+        .split(' ')
+        .map(|field| field.parse().ok());
     let numbers: Vec<u32> = numbers.collect::<Option<_>>()?;
     let periods: Vec<u32> = numbers.iter().skip(1).step_by(2).copied().collect();
     let costs: Vec<u32> = numbers.iter().skip(2).step_by(2).copied().collect();
@@ -200,8 +213,8 @@ pub fn run(input: impl BufRead, mut output: impl Write) -> io::Result<()> {
 #[cfg(test)]
 mod tests {
     use super::*;
-    use crate::random::Random;
-    use crate::shares::{self, Tasks};
+    use second::random::Random;
+    use second::shares::{self, Tasks};
 
     fn wide(list: &[u32]) -> Vec<u64> {
         list.iter().map(|&x| u64::from(x)).collect()
@@ -225,13 +238,19 @@ mod tests {
             let longest = if round % 10 == 0 { 60 } else { 15 };
             let (periods, costs) = random_tasks(&mut random, longest);
             let (wide_periods, wide_costs) = (wide(&periods), wide(&costs));
-            let tasks = Tasks { periods: &wide_periods, costs: &wide_costs };
+            let tasks = Tasks {
+                periods: &wide_periods,
+                costs: &wide_costs,
+            };
             let p_max = random.between(1, 25) as u32;
             let found = best(&periods, &costs, p_max);
             match shares::best(tasks, u64::from(p_max)) {
                 Ok(plain) => {
                     passed += 1;
-                    assert_eq!((plain.period, plain.budget), (found.0.into(), found.1.into()));
+                    assert_eq!(
+                        (plain.period, plain.budget),
+                        (found.0.into(), found.1.into())
+                    );
                 }
                 Err(_) => assert_eq!(found, (0, 0)),
             }

@@ -1,8 +1,8 @@
 //! A search for task lists that cost the best interface the most work: families of
 //! lists first, then small changes to the worst ones for as long as they get worse.
 
-use crate::random::Random;
-use crate::twin;
+use super::twin;
+use second::random::Random;
 
 pub const P_MAX: u32 = 2000;
 const N: usize = 16;
@@ -26,7 +26,11 @@ impl List {
     }
 
     fn tasks(&self) -> Vec<(u32, u32)> {
-        self.periods.iter().copied().zip(self.costs.iter().copied()).collect()
+        self.periods
+            .iter()
+            .copied()
+            .zip(self.costs.iter().copied())
+            .collect()
     }
 
     pub fn query(&self, p_max: u32) -> String {
@@ -52,8 +56,19 @@ const KNOWN: [&str; 6] = [
 ];
 
 pub fn known() -> Vec<List> {
-    let numbers = |row: &str| row.split(' ').filter_map(|field| field.parse().ok()).collect::<Vec<u32>>();
-    let list = |row: &&str| List::new(numbers(row).chunks(2).map(|task| (task[0], task[1])).collect());
+    let numbers = |row: &str| {
+        row.split(' ')
+            .filter_map(|field| field.parse().ok())
+            .collect::<Vec<u32>>()
+    };
+    let list = |row: &&str| {
+        List::new(
+            numbers(row)
+                .chunks(2)
+                .map(|task| (task[0], task[1]))
+                .collect(),
+        )
+    };
     KNOWN.iter().map(list).collect()
 }
 
@@ -65,7 +80,8 @@ fn near(random: &mut Random, centre: u32, spread: u64) -> u32 {
 fn with_use(random: &mut Random, periods: Vec<u32>, percent: u64) -> List {
     let parts: Vec<u64> = periods.iter().map(|_| random.between(1, 100)).collect();
     let whole: u64 = parts.iter().sum();
-    let cost = |(&p, &part): (&u32, &u64)| (p, (u64::from(p) * part * percent / whole / 100) as u32);
+    let cost =
+        |(&p, &part): (&u32, &u64)| (p, (u64::from(p) * part * percent / whole / 100) as u32);
     List::new(periods.iter().zip(&parts).map(cost).collect())
 }
 
@@ -91,7 +107,13 @@ fn short_first(random: &mut Random) -> List {
 /// Periods that are nearly multiples of each other.
 fn near_harmonic(random: &mut Random) -> List {
     let base = random.between(2, 130) as u32;
-    let factor = |random: &mut Random, i: u32| if random.once_in(2) { i + 1 } else { 1 << (i % 8) };
+    let factor = |random: &mut Random, i: u32| {
+        if random.once_in(2) {
+            i + 1
+        } else {
+            1 << (i % 8)
+        }
+    };
     let mut periods = Vec::new();
     for i in 0..N as u32 {
         let factor = factor(random, i);
@@ -103,21 +125,33 @@ fn near_harmonic(random: &mut Random) -> List {
 
 fn all_long(random: &mut Random) -> List {
     let spread = *random.pick(&[0, 10, 100, 1000]);
-    let periods = (0..N).map(|_| (P_MAX - random.below(spread + 1) as u32).max(1)).collect();
+    let periods = (0..N)
+        .map(|_| (P_MAX - random.below(spread + 1) as u32).max(1))
+        .collect();
     let percent = random.between(1, 105);
     with_use(random, periods, percent)
 }
 
 fn all_one(random: &mut Random) -> List {
     let longest = random.between(2, 2000);
-    List::new((0..N).map(|_| (random.between(1, longest) as u32, 1)).collect())
+    List::new(
+        (0..N)
+            .map(|_| (random.between(1, longest) as u32, 1))
+            .collect(),
+    )
 }
 
 /// Only the whole core passes, or nothing does, and it shows at the last task.
 fn last_decides(random: &mut Random) -> List {
-    let mut list = if random.once_in(2) { near_harmonic(random) } else { random_list(random) };
+    let mut list = if random.once_in(2) {
+        near_harmonic(random)
+    } else {
+        random_list(random)
+    };
     let last = N - 1;
-    let asked: u32 = (0..last).map(|k| P_MAX.div_ceil(list.periods[k]) * list.costs[k]).sum();
+    let asked: u32 = (0..last)
+        .map(|k| P_MAX.div_ceil(list.periods[k]) * list.costs[k])
+        .sum();
     list.periods[last] = P_MAX;
     list.costs[last] = P_MAX.saturating_sub(asked).clamp(1, P_MAX) + random.below(2) as u32;
     List::new(list.tasks())
@@ -172,7 +206,10 @@ fn changed(random: &mut Random, list: &List) -> List {
 /// The worst lists found, worst first, with the lengths looked at.
 pub fn search(seed: u64, families: u64, changes: u64, known: &[List]) -> Vec<(u64, List)> {
     let mut random = Random::new(seed);
-    let mut worst: Vec<(u64, List)> = known.iter().map(|list| (list.lengths(), list.clone())).collect();
+    let mut worst: Vec<(u64, List)> = known
+        .iter()
+        .map(|list| (list.lengths(), list.clone()))
+        .collect();
     for _ in 0..families {
         let list = from_family(&mut random);
         worst.push((list.lengths(), list));
