@@ -1,18 +1,24 @@
 //! `compare-card`: the given program and this one on the same random runs of records.
 
 use crate::card_cases;
+use crate::endings;
 use crate::generate::{self, Run};
 use crate::lines::Card;
-use crate::pipe;
+use crate::pipe::{self, Part};
 use crate::random::Random;
 use crate::reached::Reached;
+use crate::records::{self, HEADER};
+use crate::turns::{Call, Change};
 use crate::words;
+use std::time::Duration;
 
 pub struct Plan {
     pub program: String,
     pub seed: u64,
     pub records: u64,
     pub list: bool,
+    /// How long to wait for the program to end.
+    pub wait: Duration,
 }
 
 /// How many runs, and about how many records each: enough runs for every ending, and now
@@ -71,54 +77,129 @@ fn told(run: &Run, place: usize, theirs: &[u8]) -> String {
     text + &format!("  record:  {record}\n  program: {}\n  second:  {mine}", theirs.escape_ascii())
 }
 
-/// Each record is answered before the next one is sent; a bad header before more comes.
-fn compare_talk(program: &str, seed: u64) -> Result<(), String> {
-    for place in (0..120).step_by(7) {
-        let run = generate::run(seed, place, 40, &mut Reached::default());
-        let mut parts: Vec<(Vec<u8>, usize)> = Vec::new();
-        for (number, (record, line)) in run.records.iter().zip(&run.lines).enumerate() {
-            let stops = line.starts_with("no 21") || line.starts_with("no 22");
-            let cut = 1 + (number + place as usize) % 10;
-            match line.as_str() {
-                "no 20 0\n" => parts.push((record.clone(), 0)),
-                _ if stops => parts.push((record[..3].to_vec(), 1)),
-                _ => parts.extend([(record[..cut].to_vec(), 0), (record[cut..].to_vec(), 1)]),
-            }
-        }
-        let theirs: String = pipe::talk(program, &parts)?.iter().map(|line| format!("{line}\n")).collect();
-        if let Some(difference) = first_difference(&run, theirs.as_bytes()) {
-            return Err(format!("record by record, seed {seed}, run {place}: {difference}"));
-        }
-    }
-    Ok(())
+/// Parts, each with the lines that this program's reader has for it before more comes.
+fn awaited(card: &mut Card, parts: Vec<Vec<u8>>) -> Vec<Part> {
+    let told = |part: Vec<u8>| {
+        let lines = card.take(&part).lines().count();
+        (part, lines)
+    };
+    parts.into_iter().filter(|part| !part.is_empty()).map(told).collect()
 }
 
-/// The input in parts that take no heed of where records end, each with the lines that it
-/// makes answerable.
-fn random_parts(run: &Run, random: &mut Random) -> Vec<(Vec<u8>, usize)> {
-    let (input, mut card) = (run.input(), Card::new());
+/// Each record in two parts. The last one is cut behind its header: a bad header is to be
+/// answered before more comes.
+fn records_in_two(run: &Run, place: u64) -> Vec<Vec<u8>> {
+    let mut parts = Vec::new();
+    for (number, record) in run.records.iter().enumerate() {
+        let is_last = number + 1 == run.records.len();
+        let cut = if is_last { HEADER } else { 1 + (number + place as usize) % 10 };
+        let (front, rest) = record.split_at(cut.min(record.len()));
+        parts.extend([front.to_vec(), rest.to_vec()]);
+    }
+    parts.push(run.behind.clone());
+    parts
+}
+
+/// Parts of some length at most, which take no heed of where records end.
+fn random_parts(input: &[u8], random: &mut Random) -> Vec<Vec<u8>> {
+    let most = *random.pick(&[1, 9, 60]);
     let (mut parts, mut from) = (Vec::new(), 0);
     while from < input.len() {
-        let to = input.len().min(from + random.between(1, 60) as usize);
-        let part = input[from..to].to_vec();
-        let awaited = card.take(&part).lines().count();
-        parts.push((part, awaited));
+        let to = input.len().min(from + random.between(1, most) as usize);
+        parts.push(input[from..to].to_vec());
         from = to;
     }
     parts
 }
 
-/// A part may hold no record, or the end of one and some more: what is left of one part
-/// goes on with the next.
-fn compare_cuts(program: &str, seed: u64) -> Result<(), String> {
-    let mut random = Random::new(seed);
-    for place in 0..40 {
-        let run = generate::run(seed, place, 200, &mut Reached::default());
-        let parts = random_parts(&run, &mut random);
-        let theirs: String = pipe::talk(program, &parts)?.iter().map(|line| format!("{line}\n")).collect();
-        if let Some(difference) = first_difference(&run, theirs.as_bytes()) {
-            return Err(format!("in parts, seed {seed}, run {place}: {difference}"));
+/// Behind the parts an empty one, which ends the input, where they do not stop the card.
+fn ended(parts: Vec<Vec<u8>>) -> Vec<Part> {
+    let mut card = Card::new();
+    let mut told = awaited(&mut card, parts);
+    if !card.has_stopped() {
+        told.push((Vec::new(), card.end().lines().count()));
+    }
+    told
+}
+
+/// A record that comes too late: whoever reads it gives a line too many.
+fn later() -> Part {
+    (records::write(&Call { time: 0, change: Change::Tick }), 0)
+}
+
+/// Tries one run in all the ways that a host can send it. But for the first, the input
+/// stays open until the program has ended.
+struct Ways<'a> {
+    program: &'a str,
+    limit: Duration,
+    run: &'a Run,
+}
+
+impl Ways<'_> {
+    fn judge(&self, way: &str, output: Result<Vec<u8>, String>) -> Result<(), String> {
+        let difference = match output {
+            Ok(output) => first_difference(self.run, &output),
+            Err(error) => Some(error),
+        };
+        difference.map_or(Ok(()), |difference| Err(format!("{way}: {difference}")))
+    }
+
+    fn record_by_record(&self, place: u64) -> Result<(), String> {
+        let parts = awaited(&mut Card::new(), records_in_two(self.run, place));
+        self.judge("record by record", pipe::talk(&[self.program], &parts))
+    }
+
+    fn in_reads(&self, way: &str, parts: &[Part]) -> Result<(), String> {
+        self.judge(way, pipe::talk_in_reads(&[self.program], parts, self.limit))
+    }
+
+    /// A part may hold no record, or the end of one and some more: what is left of one part
+    /// goes on with the next.
+    fn in_parts(&self, random: &mut Random) -> Result<(), String> {
+        let mut parts = ended(random_parts(&self.run.input(), random));
+        parts.push(later());
+        self.in_reads("in parts, and more behind the end", &parts)
+    }
+
+    fn in_one_part(&self) -> Result<(), String> {
+        self.in_reads("in one part, left open", &ended(vec![self.run.input()]))
+    }
+
+    /// Over a pipe, which has no end of input while it is open.
+    fn on_a_pipe(&self) -> Result<(), String> {
+        let mut card = Card::new();
+        let records = awaited(&mut card, vec![self.run.records.concat()]);
+        if !card.has_stopped() {
+            return Ok(());
         }
+        let (late, _) = later();
+        let with_more =
+            awaited(&mut Card::new(), vec![[self.run.records.concat(), late.clone(), late].concat()]);
+        let ways = [
+            ("on an open pipe, and no more", records.clone()),
+            ("on an open pipe, and more in the same write", with_more),
+            ("on an open pipe, and more in later writes", [records, vec![later(), later()]].concat()),
+        ];
+        ways.iter().try_for_each(|(way, parts)| {
+            self.judge(way, pipe::talk_left_open(&[self.program], parts, self.limit))
+        })
+    }
+
+    fn compare_all(&self, place: u64, random: &mut Random) -> Result<(), String> {
+        self.record_by_record(place)?;
+        self.in_parts(random)?;
+        self.in_one_part()?;
+        self.on_a_pipe()
+    }
+}
+
+/// Every ending, behind a short run, in every way.
+fn compare_endings(program: &str, seed: u64, limit: Duration) -> Result<(), String> {
+    let mut random = Random::new(seed);
+    for place in endings::places() {
+        let run = &generate::run(seed, place, 40, &mut Reached::default());
+        let compared = Ways { program, limit, run }.compare_all(place, &mut random);
+        compared.map_err(|error| format!("seed {seed}, ending {place}, {error}"))?;
     }
     Ok(())
 }
@@ -133,8 +214,7 @@ fn compare_empty(program: &str) -> Result<(), String> {
 
 pub fn run(plan: &Plan) -> Result<String, String> {
     compare_empty(&plan.program)?;
-    compare_talk(&plan.program, plan.seed)?;
-    compare_cuts(&plan.program, plan.seed)?;
+    compare_endings(&plan.program, plan.seed, plan.wait)?;
     let mut reached = Reached::default();
     let (mut records, mut accepted) = (0, 0);
     let runs = lengths(plan.records).runs;
@@ -179,15 +259,17 @@ mod tests {
 
     #[test]
     fn parts_are_the_input_and_await_its_lines() {
-        let run = generate::run(1, 3, 100, &mut Reached::default());
-        let parts = random_parts(&run, &mut Random::new(1));
-        let bytes: Vec<u8> = parts.iter().flat_map(|(part, _)| part.clone()).collect();
-        assert_eq!(bytes, run.input());
-        let awaited: usize = parts.iter().map(|(_, awaited)| awaited).sum();
-        assert!(awaited == run.lines.len() || awaited + 1 == run.lines.len());
-        assert!(
-            parts.iter().any(|&(_, awaited)| awaited > 1) && parts.iter().any(|&(_, awaited)| awaited == 0)
-        );
+        let mut random = Random::new(1);
+        for place in endings::places() {
+            let run = generate::run(1, place, 30, &mut Reached::default());
+            for parts in [records_in_two(&run, place), random_parts(&run.input(), &mut random)] {
+                assert_eq!(parts.concat(), run.input());
+                let told = ended(parts);
+                let lines: usize = told.iter().map(|(_, lines)| lines).sum();
+                assert_eq!(lines, run.lines.len());
+                assert!(told.iter().rev().skip(1).all(|(part, _)| !part.is_empty()));
+            }
+        }
     }
 
     #[test]

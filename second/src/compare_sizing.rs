@@ -5,6 +5,7 @@ use crate::queries::Queries;
 use crate::query_cases;
 use crate::reached::Reached;
 use crate::sizing::{self, Answer, Reader};
+use std::time::Duration;
 
 /// Inputs whose end or layout matters, each run alone.
 const ENDS: [&[u8]; 14] = [
@@ -29,6 +30,8 @@ pub struct Plan {
     pub seed: u64,
     pub count: u64,
     pub list: bool,
+    /// How long to wait for the program to end.
+    pub wait: Duration,
 }
 
 struct Asked {
@@ -102,22 +105,36 @@ fn long_inputs() -> [Vec<u8>; 3] {
     [zeros, fields, digits].map(String::into_bytes)
 }
 
-fn compare_whole(program: &str, input: &[u8]) -> Result<(), String> {
-    let theirs = pipe::feed(program, input)?;
-    let mine: String = sizing::answers(input).iter().map(|a| a.line() + "\n").collect();
-    if theirs == mine.as_bytes() {
+fn agree(what: &str, theirs: &[u8], mine: &[u8]) -> Result<(), String> {
+    if theirs == mine {
         return Ok(());
     }
-    Err(format!(
-        "whole input \"{}\" differs\n  program: {}\n  second:  {}",
-        shown(input),
-        shown(&theirs),
-        shown(mine.as_bytes())
-    ))
+    Err(format!("{what} differs\n  program: {}\n  second:  {}", shown(theirs), shown(mine)))
 }
 
-fn compare_ends(program: &str) -> Result<(), String> {
+fn all_answers(input: &[u8]) -> Vec<u8> {
+    sizing::answers(input).iter().map(|answer| answer.line() + "\n").collect::<String>().into_bytes()
+}
+
+fn compare_whole(program: &str, input: &[u8]) -> Result<(), String> {
+    agree(&format!("whole input \"{}\"", shown(input)), &pipe::feed(program, input)?, &all_answers(input))
+}
+
+/// Each byte is what one read gives. Behind the end nothing more comes, though the input
+/// stays open.
+fn compare_bytes(program: &str, input: &[u8], limit: Duration) -> Result<(), String> {
+    let (mut reader, mut parts) = (Reader::new(), Vec::new());
+    for &byte in input {
+        parts.push((vec![byte], usize::from(reader.take(byte).is_some())));
+    }
+    parts.push((Vec::new(), usize::from(reader.end().is_some())));
+    let theirs = pipe::talk_in_reads(&[program], &parts, limit)?;
+    agree(&format!("\"{}\" byte by byte", shown(input)), &theirs, &all_answers(input))
+}
+
+fn compare_ends(program: &str, limit: Duration) -> Result<(), String> {
     ENDS.iter().try_for_each(|input| compare_whole(program, input))?;
+    ENDS.iter().try_for_each(|input| compare_bytes(program, input, limit))?;
     long_inputs().iter().try_for_each(|input| compare_whole(program, input))
 }
 
@@ -129,17 +146,13 @@ fn compare_talk(program: &str) -> Result<(), String> {
     for line in lines {
         let answer = answer_alone(line.as_bytes());
         parts.push((line.as_bytes().to_vec(), usize::from(answer.is_some())));
-        mine.extend(answer.map(|a| a.line()));
+        mine.extend(answer.map(|a| a.line() + "\n"));
     }
-    let theirs = pipe::talk(program, &parts)?;
-    if theirs != mine {
-        return Err(format!("talk differs\n  program: {theirs:?}\n  second:  {mine:?}"));
-    }
-    Ok(())
+    agree("line by line", &pipe::talk(&[program], &parts)?, mine.concat().as_bytes())
 }
 
 pub fn run(plan: &Plan) -> Result<String, String> {
-    compare_ends(&plan.program)?;
+    compare_ends(&plan.program, plan.wait)?;
     compare_talk(&plan.program)?;
     let mut reached = Reached::default();
     let asked = ask_all(plan, &mut reached);

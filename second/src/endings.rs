@@ -1,13 +1,12 @@
 //! How a run can end: cut at every offset of a record, a tag that is unknown, a length
-//! that isn't the tag's, or nothing of it.
+//! that isn't the tag's, or nothing of it. What the card says to an ending is not told
+//! here: it is for the reader (`lines::Card`) to say.
 
 use crate::records::{self, HEADER};
 use crate::turns::{Call, Change, Description};
 
 pub struct Ending {
     pub case: String,
-    /// The number of the line that the card ends with, if the ending has one.
-    pub number: Option<u32>,
     pub record: Vec<u8>,
 }
 
@@ -59,22 +58,27 @@ pub fn all_cases() -> Vec<String> {
     names().into_iter().map(|(name, _)| name).collect()
 }
 
+/// The places of all endings.
+pub fn places() -> std::ops::Range<u64> {
+    0..names().len() as u64
+}
+
 pub fn ending(place: u64, time: u64, identifier: u32) -> Ending {
     let mut all = names();
     let (case, kind) = all.swap_remove((place % all.len() as u64) as usize);
-    let (number, record) = match kind {
-        Kind::Clean => (None, Vec::new()),
-        Kind::Cut(tag, offset) => (Some(20), whole(tag, time, identifier)[..offset].to_vec()),
-        Kind::Bytes(bytes) => (Some(20), bytes.to_vec()),
-        Kind::Unknown(tag) => (Some(21), unknown(tag, time, identifier)),
+    let record = match kind {
+        Kind::Clean => Vec::new(),
+        Kind::Cut(tag, offset) => whole(tag, time, identifier)[..offset].to_vec(),
+        Kind::Bytes(bytes) => bytes.to_vec(),
+        Kind::Unknown(tag) => unknown(tag, time, identifier),
         Kind::Length(tag, place, plus) => {
             let mut record = whole(tag, time, identifier);
             record[place] = record[place].wrapping_add(plus);
-            (Some(22), record)
+            record
         }
-        Kind::Zero(tag) => (Some(22), vec![tag, 0, 0]),
+        Kind::Zero(tag) => vec![tag, 0, 0],
     };
-    Ending { case, number, record }
+    Ending { case, record }
 }
 
 /// Tags 6 and 7 with the layout that is kept for them; the others with a tick's.
@@ -94,16 +98,26 @@ fn unknown(tag: u8, time: u64, identifier: u32) -> Vec<u8> {
 #[cfg(test)]
 mod tests {
     use super::*;
+    use crate::lines::Card;
+
+    /// The number that each kind is meant to be refused with.
+    fn meant(kind: Kind) -> Option<u32> {
+        match kind {
+            Kind::Clean => None,
+            Kind::Cut(..) | Kind::Bytes(_) => Some(20),
+            Kind::Unknown(_) => Some(21),
+            Kind::Length(..) | Kind::Zero(_) => Some(22),
+        }
+    }
 
     #[test]
     fn every_ending_reads_as_its_number() {
-        for place in 0..all_cases().len() as u64 {
-            let ending = ending(place, 77, 257);
-            let Some(number) = ending.number else {
-                assert!(ending.record.is_empty());
-                continue;
-            };
-            assert_eq!(records::read(&ending.record).unwrap_err().number, number, "{}", ending.case);
+        for (place, (case, kind)) in names().into_iter().enumerate() {
+            let ending = ending(place as u64, 77, 257);
+            let mut card = Card::new();
+            let lines = card.take(&ending.record) + &card.end();
+            let right = meant(kind).map_or(String::new(), |number| format!("no {number} 0\n"));
+            assert_eq!(lines, right, "{case}");
         }
     }
 }

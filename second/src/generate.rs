@@ -3,7 +3,7 @@
 
 use crate::card_cases::{self, Notes};
 use crate::endings;
-use crate::lines;
+use crate::lines::{self, Card};
 use crate::random::Random;
 use crate::reached::Reached;
 use crate::records;
@@ -134,17 +134,22 @@ impl Generator<'_> {
         self.run.records.push(record);
     }
 
-    /// Ends the run; the endings are gone through by the run's place.
+    /// Ends the run; the endings are gone through by the run's place. The reader says what
+    /// the card answers, and whether it stops before the input does.
     fn finish(&mut self, place: u64) {
-        let ending = endings::ending(place, self.core.last, self.pool[0]);
+        let time = self.core.last;
+        let ending = endings::ending(place, time, self.pool[0]);
         self.reached.add(ending.case);
-        let Some(number) = ending.number else { return };
-        self.run.records.push(ending.record);
-        self.run.lines.push(format!("no {number} 0\n"));
-        if number != 20 && self.random.once_in(2) {
-            let time = self.core.last;
+        let mut card = Card::after(std::mem::replace(&mut self.core, Core::new()));
+        let mut lines = card.take(&ending.record);
+        if card.has_stopped() && self.random.once_in(2) {
             self.run.behind = records::write(&Call { time, change: Change::Tick });
             self.reached.add("bytes behind a stop");
+        }
+        lines += &(card.take(&self.run.behind) + &card.end());
+        if !ending.record.is_empty() {
+            self.run.records.push(ending.record);
+            self.run.lines.push(lines);
         }
     }
 

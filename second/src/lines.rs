@@ -29,7 +29,16 @@ pub struct Card {
 
 impl Card {
     pub fn new() -> Card {
-        Card { core: Core::new(), unread: Vec::new(), stopped: false }
+        Card::after(Core::new())
+    }
+
+    /// The card that has answered all its records so far and stands so.
+    pub fn after(core: Core) -> Card {
+        Card { core, unread: Vec::new(), stopped: false }
+    }
+
+    pub fn has_stopped(&self) -> bool {
+        self.stopped
     }
 
     fn stop(&mut self, refusal: Refusal) -> String {

@@ -5,6 +5,7 @@ mod card_cases;
 mod compare_card;
 mod compare_sizing;
 mod endings;
+mod ends;
 mod generate;
 mod lines;
 mod outside;
@@ -20,6 +21,7 @@ mod words;
 use options::Options;
 use second::{options, pipe, random, refusal, shares};
 use std::io::{self, Read, Write};
+use std::time::Duration;
 
 const USAGE: &str = "usage: second COMMAND
 from standard input to standard output:
@@ -28,8 +30,10 @@ from standard input to standard output:
   words       records in words to bytes
   unwords     bytes to records in words
 with the program to try:
-  compare-sizing PROGRAM [--seed S] [--count N] [--list 1]
-  compare-card PROGRAM [--seed S] [--records N] [--list 1]
+  compare-sizing PROGRAM [--seed S] [--count N] [--list 1] [--wait S]
+  compare-card PROGRAM [--seed S] [--records N] [--list 1] [--wait S]
+  ends-sizing PROGRAM [--wait S]
+  ends-card PROGRAM [--wait S]
   outside PROGRAM [--seed S] [--runs N]
 a picture of records in words, from standard input to standard output:
   picture PROGRAM
@@ -53,7 +57,7 @@ fn main() {
 
 fn run(command: &str, options: &Options) -> Result<(), String> {
     match command {
-        "compare-sizing" | "compare-card" | "outside" => {
+        "compare-sizing" | "compare-card" | "ends-sizing" | "ends-card" | "outside" => {
             println!("{}", try_program(command, options)?);
             Ok(())
         }
@@ -86,15 +90,18 @@ fn try_program(command: &str, options: &Options) -> Result<String, String> {
     let program = options.program()?;
     let seed = options.number("seed", 1);
     let list = options.number("list", 0) != 0;
+    let wait = Duration::from_secs(options.number("wait", pipe::PATIENCE.as_secs()));
     match command {
         "compare-sizing" => {
             let count = options.number("count", 100_000);
-            compare_sizing::run(&compare_sizing::Plan { program, seed, count, list })
+            compare_sizing::run(&compare_sizing::Plan { program, seed, count, list, wait })
         }
         "compare-card" => {
             let records = options.number("records", RECORDS);
-            compare_card::run(&compare_card::Plan { program, seed, records, list })
+            compare_card::run(&compare_card::Plan { program, seed, records, list, wait })
         }
+        "ends-sizing" => ends::sizing(&program, wait),
+        "ends-card" => ends::card(&program, wait),
         _ => {
             let runs = options.number("runs", 10_000);
             outside::run(&outside::Plan { program, seed, runs })

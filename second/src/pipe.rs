@@ -1,16 +1,18 @@
 //! Runs another program over pipes.
 
-use std::io::{BufRead, BufReader, Read, Write};
+use std::io::{self, BufRead, BufReader, Read, Write};
+use std::os::fd::OwnedFd;
+use std::os::unix::net::UnixDatagram;
 use std::process::{Child, Command, Stdio};
 use std::sync::mpsc;
-use std::time::Duration;
+use std::time::{Duration, Instant};
 
-fn start(command: &[&str]) -> Result<Child, String> {
+pub fn start(command: &[&str], input: Stdio, output: Stdio) -> Result<Child, String> {
     let program = command[0];
     Command::new(program)
         .args(&command[1..])
-        .stdin(Stdio::piped())
-        .stdout(Stdio::piped())
+        .stdin(input)
+        .stdout(output)
         .stderr(Stdio::piped())
         .spawn()
         .map_err(|error| format!("{program} does not start: {error}"))
@@ -18,6 +20,9 @@ fn start(command: &[&str]) -> Result<Child, String> {
 
 /// Longer than any program here takes for one input.
 const LONGEST_RUN: Duration = Duration::from_secs(300);
+
+/// Longer than any program here takes for one answer, or to end once it has its reason.
+pub const PATIENCE: Duration = Duration::from_secs(30);
 
 /// Ends the program if nothing is sent before the time is up.
 fn watch(process: u32, done: &mpsc::Receiver<()>) {
@@ -47,7 +52,7 @@ pub fn feed(program: &str, input: &[u8]) -> Result<Vec<u8>, String> {
 
 pub fn feed_command(command: &[&str], input: &[u8]) -> Result<Vec<u8>, String> {
     let program = command[0];
-    let mut child = start(command)?;
+    let mut child = start(command, Stdio::piped(), Stdio::piped())?;
     let mut to = child.stdin.take().expect("a pipe was asked for");
     let from = child.stdout.take().expect("a pipe was asked for");
     let most = 64 * input.len() as u64 + 4096;
@@ -68,42 +73,131 @@ pub fn feed_command(command: &[&str], input: &[u8]) -> Result<Vec<u8>, String> {
     judged.map(|()| output)
 }
 
-/// Talks with the program: each part goes alone, and its lines must come before the next
-/// part goes. A part is its bytes and the number of lines awaited.
-pub fn talk(program: &str, parts: &[(Vec<u8>, usize)]) -> Result<Vec<String>, String> {
-    let mut child = start(&[program])?;
-    let mut to = child.stdin.take().expect("a pipe was asked for");
-    let from = child.stdout.take().expect("a pipe was asked for");
-    let (send, receive) = mpsc::channel();
-    std::thread::spawn(move || {
-        for line in BufReader::new(from).lines().map_while(Result::ok) {
-            if send.send(line).is_err() {
-                return;
+/// Bytes that go alone, and the number of lines that must come before more goes.
+pub type Part = (Vec<u8>, usize);
+
+/// Talks with the program over a pipe, which closes behind the last part.
+pub fn talk(command: &[&str], parts: &[Part]) -> Result<Vec<u8>, String> {
+    let (mut talk, mut to) = Talk::over_a_pipe(command, PATIENCE)?;
+    talk.send_all(parts, |bytes| to.write_all(bytes))?;
+    drop(to);
+    talk.end()
+}
+
+/// As `talk`, but the pipe stays open: the program has to end by itself.
+pub fn talk_left_open(command: &[&str], parts: &[Part], limit: Duration) -> Result<Vec<u8>, String> {
+    let (mut talk, mut to) = Talk::over_a_pipe(command, limit)?;
+    talk.send_all(parts, |bytes| to.write_all(bytes))?;
+    let said = talk.end();
+    drop(to);
+    said
+}
+
+/// As `talk_left_open`, but each part is what one read gives, whatever stands behind it,
+/// and an empty part is a read of nothing, the end of input.
+pub fn talk_in_reads(command: &[&str], parts: &[Part], limit: Duration) -> Result<Vec<u8>, String> {
+    let failed = |error: io::Error| format!("no pair of sockets: {error}");
+    let (mine, its) = UnixDatagram::pair().map_err(failed)?;
+    mine.set_write_timeout(Some(limit)).map_err(failed)?;
+    let mut talk = Talk::start(command, OwnedFd::from(its).into(), limit)?;
+    let said = talk.send_all(parts, |bytes| mine.send(bytes).map(drop)).and_then(|()| talk.end());
+    // Whoever still reads has no other way to learn that this end closes.
+    mine.send(&[]).ok();
+    said
+}
+
+/// A program under way, and what it has written so far.
+struct Talk {
+    program: String,
+    child: Child,
+    lines: mpsc::Receiver<Vec<u8>>,
+    said: Vec<u8>,
+    limit: Duration,
+}
+
+impl Talk {
+    fn start(command: &[&str], input: Stdio, limit: Duration) -> Result<Talk, String> {
+        let mut child = start(command, input, Stdio::piped())?;
+        let from = child.stdout.take().expect("a pipe was asked for");
+        let (send, lines) = mpsc::channel();
+        std::thread::spawn(move || {
+            for line in lines_of(from) {
+                if send.send(line).is_err() {
+                    return;
+                }
+            }
+        });
+        Ok(Talk { program: command[0].to_string(), child, lines, said: Vec::new(), limit })
+    }
+
+    fn over_a_pipe(command: &[&str], limit: Duration) -> Result<(Talk, impl Write), String> {
+        let mut talk = Talk::start(command, Stdio::piped(), limit)?;
+        let to = talk.child.stdin.take().expect("a pipe was asked for");
+        Ok((talk, to))
+    }
+
+    /// A program that has ended takes no more; its lines show whether it should have.
+    fn send_all(
+        &mut self,
+        parts: &[Part],
+        mut send: impl FnMut(&[u8]) -> io::Result<()>,
+    ) -> Result<(), String> {
+        for (place, (bytes, awaited)) in parts.iter().enumerate() {
+            if send(bytes).is_err() {
+                return Ok(());
+            }
+            for _ in 0..*awaited {
+                let Ok(line) = self.lines.recv_timeout(self.limit) else {
+                    return self.give_up(&format!("no answer to part {} while its input is open", place + 1));
+                };
+                self.said.extend(line);
             }
         }
-    });
-    let mut lines = Vec::new();
-    let mut silent = None;
-    'parts: for (place, (bytes, awaited)) in parts.iter().enumerate() {
-        if to.write_all(bytes).and_then(|()| to.flush()).is_err() {
-            break;
-        }
-        for _ in 0..*awaited {
-            let Ok(line) = receive.recv_timeout(Duration::from_secs(20)) else {
-                silent = Some(place);
-                break 'parts;
-            };
-            lines.push(line);
-        }
+        Ok(())
     }
-    drop(to);
-    if let Some(place) = silent {
-        child.kill().ok();
-        child.wait().ok();
-        return Err(format!("no answer to part {} while the pipe is open", place + 1));
+
+    /// All that it wrote, if it ends before the time is up.
+    fn end(mut self) -> Result<Vec<u8>, String> {
+        let latest = Instant::now() + self.limit;
+        while let Ok(line) = self.lines.recv_timeout(latest.saturating_duration_since(Instant::now())) {
+            self.said.extend(line);
+        }
+        if !has_ended(&mut self.child, latest) {
+            self.give_up(&format!("has not ended behind {:?}", last_line(&self.said)))?;
+        }
+        judge(&mut self.child, &self.program).map(|()| self.said)
     }
-    lines.extend(receive.iter());
-    judge(&mut child, program).map(|()| lines)
+
+    fn give_up(&mut self, why: &str) -> Result<(), String> {
+        self.child.kill().ok();
+        self.child.wait().ok();
+        Err(format!("{}: {why}", self.program))
+    }
+}
+
+/// Waits for its end, and no longer than to the moment given.
+pub fn has_ended(child: &mut Child, latest: Instant) -> bool {
+    while !matches!(child.try_wait(), Ok(Some(_))) {
+        if Instant::now() > latest {
+            return false;
+        }
+        std::thread::sleep(Duration::from_millis(1));
+    }
+    true
+}
+
+/// The lines with their newlines; the last may have none.
+fn lines_of(from: impl Read) -> impl Iterator<Item = Vec<u8>> {
+    let mut from = BufReader::new(from);
+    std::iter::from_fn(move || {
+        let mut line = Vec::new();
+        let count = from.read_until(b'\n', &mut line).ok()?;
+        (count > 0).then_some(line)
+    })
+}
+
+fn last_line(said: &[u8]) -> String {
+    String::from_utf8_lossy(said).lines().last().unwrap_or("").to_string()
 }
 
 #[cfg(test)]
@@ -127,7 +221,36 @@ mod tests {
     #[test]
     fn a_talk_sees_silence_and_crashes() {
         let parts = [(b"a\n".to_vec(), 1), (b"b\n".to_vec(), 1)];
-        assert_eq!(talk("cat", &parts), Ok(vec!["a".to_string(), "b".to_string()]));
-        assert!(talk("false", &parts).is_err());
+        assert_eq!(talk(&["cat"], &parts), Ok(b"a\nb\n".to_vec()));
+        assert!(talk(&["false"], &parts).is_err());
+    }
+
+    const SHORT: Duration = Duration::from_millis(300);
+
+    /// Reads one line, answers it and ends.
+    const STOPS: [&str; 3] = ["sh", "-c", "read line; echo $line"];
+    /// Reads on behind its answer.
+    const READS_ON: [&str; 3] = ["sh", "-c", "read line; echo $line; read line; true"];
+
+    #[test]
+    fn a_program_that_reads_on_is_seen_while_its_input_is_open() {
+        let (one, more) = ((b"a\n".to_vec(), 1), (b"b\n".to_vec(), 0));
+        for parts in [vec![one.clone()], vec![one.clone(), more]] {
+            assert_eq!(talk_left_open(&STOPS, &parts, PATIENCE), Ok(b"a\n".to_vec()));
+        }
+        assert_eq!(talk(&READS_ON, &[one.clone()]), Ok(b"a\n".to_vec()));
+        let seen = talk_left_open(&READS_ON, &[one], SHORT).unwrap_err();
+        assert!(seen.contains("has not ended behind \"a\""), "{seen}");
+    }
+
+    /// `dd` reads as often as it is told to.
+    #[test]
+    fn a_part_is_one_read_and_an_empty_one_the_end() {
+        let parts = ["ab\n", "c", "d\n", "", "e\n"].map(|part| (part.as_bytes().to_vec(), 0));
+        assert_eq!(talk_in_reads(&["cat"], &parts, PATIENCE), Ok(b"ab\ncd\n".to_vec()));
+        let two_reads = ["dd", "bs=512", "count=2", "status=none"];
+        assert_eq!(talk_in_reads(&two_reads, &parts, PATIENCE), Ok(b"ab\nc".to_vec()));
+        let seen = talk_in_reads(&["cat"], &parts[..3], SHORT).unwrap_err();
+        assert!(seen.contains("has not ended"), "{seen}");
     }
 }

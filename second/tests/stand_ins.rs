@@ -1,0 +1,88 @@
+//! The comparisons, tried on right programs and on wrong ones.
+
+use std::process::Command;
+
+/// What a command of second says to a stand-in, by exit status.
+fn said(words: &[&str], stand_in: &str, wait: &str, variables: &[(&str, &str)]) -> Result<String, String> {
+    let second = env!("CARGO_BIN_EXE_second");
+    let program = format!("{}/tests/stand_ins/{stand_in}", env!("CARGO_MANIFEST_DIR"));
+    let done = Command::new(second)
+        .args(words)
+        .args([&program, "--wait", wait])
+        .env("SECOND", second)
+        .envs(variables.iter().copied())
+        .output()
+        .expect("second starts");
+    let text = |bytes: Vec<u8>| String::from_utf8(bytes).expect("text");
+    match done.status.success() {
+        true => Ok(text(done.stdout)),
+        false => Err(text(done.stderr)),
+    }
+}
+
+/// What `compare-card` says to a stand-in that goes on so behind a line.
+fn compared(stand_in: &str, wait: &str, after: &str, then: &str) -> Result<String, String> {
+    said(&["compare-card", "--records", "20000"], stand_in, wait, &[("AFTER", after), ("THEN", then)])
+}
+
+const ENOUGH: &str = "60";
+const SHORT: &str = "3";
+
+/// Every card that goes on so behind 20, 21 or 22 is found out, in this way.
+fn is_seen(numbers: &[&str], then: &str, way: &str, what: &str) {
+    for after in numbers {
+        let fault = compared("reads_on", SHORT, after, then).unwrap_err();
+        assert!(fault.contains(way) && fault.contains(what), "{after}: {fault}");
+    }
+}
+
+#[test]
+fn a_right_card_agrees() {
+    for stand_in in ["card", "reads_on"] {
+        let said = compared(stand_in, ENOUGH, "no such number", "").unwrap();
+        assert!(said.contains("records agree"), "{stand_in}: {said}");
+    }
+}
+
+#[test]
+fn a_card_that_reads_on_is_seen() {
+    is_seen(&["20", "21", "22"], "cat >/dev/null", "in parts, and more behind the end", "has not ended");
+}
+
+#[test]
+fn a_card_that_reads_once_more_is_seen() {
+    let once = "dd bs=65536 count=1 status=none of=/dev/null";
+    is_seen(&["20", "21", "22"], once, "in one part, left open", "has not ended");
+}
+
+#[test]
+fn a_card_that_reads_on_from_a_pipe_alone_is_seen() {
+    let from_a_pipe = "sh -c '[ ! -p /dev/stdin ] || exec cat >/dev/null'";
+    is_seen(&["21", "22"], from_a_pipe, "on an open pipe, and no more", "has not ended");
+}
+
+#[test]
+fn a_card_that_answers_on_is_seen() {
+    is_seen(&["21", "22"], "\"$SECOND\" card", "record by record", "more lines than records");
+}
+
+#[test]
+fn a_card_that_loses_the_rest_of_a_part_is_seen() {
+    let fault = compared("loses_bytes", SHORT, "", "").unwrap_err();
+    assert!(fault.contains("in parts"), "{fault}");
+}
+
+#[test]
+fn a_card_that_answers_late_is_seen() {
+    let fault = compared("answers_late", SHORT, "", "").unwrap_err();
+    assert!(fault.contains("record by record") && fault.contains("no answer"), "{fault}");
+}
+
+#[test]
+fn a_right_sizing_agrees_and_one_that_reads_on_is_seen() {
+    let said = |stand_in, wait| said(&["compare-sizing"], stand_in, wait, &[]);
+    let right = said("sizing", ENOUGH).unwrap();
+    assert!(right.contains("queries agree"), "{right}");
+    let fault = said("sizing_reads_on", SHORT).unwrap_err();
+    assert!(fault.contains("has not ended"), "{fault}");
+}
