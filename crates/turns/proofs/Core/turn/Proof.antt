@@ -57,8 +57,8 @@ Inv-loop2 now ids n at p running i pick₀ j₀ pick j =
 abbrev μ-loop2 : tie.MeasureT-loop2
 μ-loop2 now ids n at p running i pick₀ j₀ pick j = n - j
 
--- The places of the code, in its order, and from each the way to the one before it. A local more in the code changes one of these
--- ways and no other line.
+-- The places of the code, in its order, and from each the way to the one before it. A local more between two of them changes the way
+-- between them and no other line.
 abbrev Judged : Type 0
 Judged = tie.After-judged Inv-loop μ-loop Inv-loop2 μ-loop2
 
@@ -90,11 +90,17 @@ Chosen = tie.After-loop2 Inv-loop μ-loop Inv-loop2 μ-loop2
 abbrev Answered : Type 0
 Answered = tie.After-timer-said Inv-loop μ-loop Inv-loop2 μ-loop2
 
+abbrev sought : Judged → tie.After-named Inv-loop μ-loop Inv-loop2 μ-loop2
+sought c = c .before
+
 abbrev start : Judged → tie.Start Inv-loop μ-loop Inv-loop2 μ-loop2
-start c = c .before .before .before .before
+start c = sought c .before .before .before
+
+abbrev told : Accepted → tie.After-enum-told Inv-loop μ-loop Inv-loop2 μ-loop2
+told c = c .before
 
 abbrev judged : Accepted → Judged
-judged c = c .before .before .before
+judged c = told c .before .before
 
 abbrev accepted : Charged → Accepted
 accepted c = c .before
@@ -114,8 +120,11 @@ changed c = c .before .before
 abbrev choosing : Chosen → Choosing
 choosing c = c .before .before
 
+abbrev held : Answered → tie.After-holder Inv-loop μ-loop Inv-loop2 μ-loop2
+held c = c .before
+
 abbrev timed : Answered → tie.After-timer-for Inv-loop μ-loop Inv-loop2 μ-loop2
-timed c = c .before .before .before
+timed c = held c .before .before
 
 abbrev chosen : Answered → Chosen
 chosen c = timed c .before
@@ -132,13 +141,13 @@ module _ (c : Judged) where
   change = start c .args .change
 
   abbrev at : ℕ
-  at = c .before .named .result
+  at = sought c .named .result
 
   valid : SoundCore core
   valid = sound core (start c .pre)
 
   named : at ≡ namedAt (idsOf (card core .vcpus)) change
-  named = named-card core now change valid at (c .before .named .ensures)
+  named = named-card core now change valid at (sought c .named .ensures)
 
   few : core .n ≤ 32
   few = omega (arith, n-is core valid, between core valid .few)
@@ -161,7 +170,7 @@ module _ (c : Accepted) where
   accept : refusal (card (core (judged c))) (now (judged c) .0) (asked (change (judged c))) ≡ none
   accept =
       accepted-call (core (judged c)) (now (judged c)) (change (judged c)) (valid (judged c)) (at (judged c))
-      (judged c .before .named .ensures) (judged c .judged .result) (judged c .judged .ensures) (c .before .enum-told .given .1)
+      (sought (judged c) .named .ensures) (judged c .judged .result) (judged c .judged .ensures) (told c .enum-told .given .1)
 
   meets : Passed (card (core (judged c))) (now (judged c) .0) (asked (change (judged c)))
   meets = passed (card (core (judged c))) (now (judged c) .0) (asked (change (judged c))) accept
@@ -294,7 +303,7 @@ module _ (c : Answered) where
           running = pick .at;
           n = meet .match2 .n;
         };
-        reply = Done (record { time = now j₅; run = c .before .holder .result; usable = pick .usable; timer = c .timer-said .result });
+        reply = Done (record { time = now j₅; run = held c .holder .result; usable = pick .usable; timer = c .timer-said .result });
       }
 
 named-requires : tie.Need-named-requires Inv-loop μ-loop Inv-loop2 μ-loop2
@@ -318,7 +327,7 @@ returns c =
     let j : Judged = refused c in
     one-more (core j) (now j) (change j) (start j .pre) _
     (turned-refused (core j) (now j) (change j) (c .before .verdict .given .0 .0) (valid j)
-    (refused-call (core j) (now j) (change j) (valid j) (at j) (j .before .named .ensures) (j .judged .result) (j .judged .ensures)
+    (refused-call (core j) (now j) (change j) (valid j) (at j) (sought j .named .ensures) (j .judged .result) (j .judged .ensures)
     (c .before .verdict .given .0 .0) (c .before .verdict .given .1)))
 
 mul-v : tie.Need-mul-v Inv-loop μ-loop Inv-loop2 μ-loop2
@@ -544,7 +553,7 @@ returns-2 c =
     let m : Changed = meet c in
     one-more (core j) (now j) (change j) (start j .pre) (answer c)
     (answer-found (now j) (vs₃ j) (in-time c) (between-places m) (m .match2 .p) (m .match2 .ids) (m .match2 .n) (after-change m) (pick c)
-    (picked-there c) (timed c .timer-for .result) (timed c .timer-for .ensures) (c .before .holder .result) (c .before .holder .ensures)
+    (picked-there c) (timed c .timer-for .result) (timed c .timer-for .ensures) (held c .holder .result) (held c .holder .ensures)
     (c .timer-said .result) (c .timer-said .ensures)
     ∙ sym (turned-accepted (core j) (now j) (change j) (accept (accepted (charged (returned m))))))
 
