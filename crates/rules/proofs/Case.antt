@@ -1,16 +1,17 @@
--- Document 01's whole case, through the rules: nine of its ten records reach the card, and what each of them gives.
--- Assumes nothing.
+-- Document 01's whole case, through the rules: nine of its ten records reach the card, and what each of them gives; and the numbers
+-- of the card, each at its limit and one beyond. Assumes nothing.
 use Prim.Native.Nat.{ℕ}
 use mathlib.Core.Path.{_≡_, refl}
 use mathlib.Core.List.{List, [], _∷_}
 use mathlib.Core.Option.{Option, none, some}
-use Rattle.rules.specs.Vcpu.{moreUrgent}
+use Rattle.rules.specs.Vcpu.{Description, Vcpu, admitted, moreUrgent}
 use Rattle.rules.specs.Card.{Card, empty}
 use Rattle.rules.specs.Charge.{posted, charged}
 use Rattle.rules.specs.Change.{admit, wake, block, remove, tick}
 use Rattle.rules.specs.Timer.{timer}
-use Rattle.rules.specs.Refuse.{refusal}
+use Rattle.rules.specs.Refuse.{admitRows, refusal}
 use Rattle.rules.specs.Turn.{Call, Reply, ok, refused, turn, settled}
+use Rattle.rules.specs.History.{ticks}
 use Rattle.rules.proofs.Examples.{at}
 
 abbrev replies : Card → List Call → List Reply
@@ -47,3 +48,39 @@ pub case :
     ∷ []
 unfolding turn refusal settled timer moreUrgent charged posted
 case = refl
+
+-- "Tick times 0 to 1,000,000,000,000", "0 to 16,777,215", "1 to 1,000,000", "1 to T"
+pub limits :
+    replies empty
+    (at 1_000_000_000_001 tick
+    ∷ at 0 (admit (record { tunnel = 16_777_216; period = 10; capacity = 3; priority = 1 }))
+    ∷ at 0 (admit (record { tunnel = 1; period = 1_000_001; capacity = 1; priority = 1 }))
+    ∷ at 0 (admit (record { tunnel = 1; period = 1_000_000; capacity = 1_000_001; priority = 1 }))
+    ∷ at 0 (admit (record { tunnel = 1; period = 0; capacity = 0; priority = 1 }))
+    ∷ at 0 (admit (record { tunnel = 1; period = 1; capacity = 0; priority = 1 }))
+    ∷ at 0 (admit (record { tunnel = 16_777_215; period = 1_000_000; capacity = 1_000_000; priority = 255 }))
+    ∷ at 0 (admit (record { tunnel = 0; period = 1; capacity = 1; priority = 0 }))
+    ∷ at 1_000_000_000_000 tick
+    ∷ [])
+    ≡ no′ 1 0
+    ∷ no′ 4 0
+    ∷ no′ 5 0
+    ∷ no′ 5 0
+    ∷ no′ 5 0
+    ∷ no′ 5 0
+    ∷ says 0 none 0 none
+    ∷ says 0 none 0 none
+    ∷ says 1_000_000_000_000 none 0 none
+    ∷ []
+unfolding turn refusal settled timer moreUrgent charged posted
+limits = refl
+
+-- "up to 32 VCPUs": one more has a place beside 31 others, and none beside 32
+abbrev others : ℕ → List Vcpu
+others n = ticks n (admitted (record { tunnel = 1; period = 10; capacity = 3; priority = 1 })) []
+
+abbrev newcomer : Description
+newcomer = record { tunnel = 2; period = 10; capacity = 3; priority = 1 }
+
+pub room : (admitRows (others 31) newcomer ≡ none) × (admitRows (others 32) newcomer ≡ some (record { number = 8; detail = 0 }))
+room = (refl, refl)

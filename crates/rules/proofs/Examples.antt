@@ -54,6 +54,11 @@ pub back-usable : usableTicks back ≡ 3 ∷ []
 unfolding turn refusal settled timer moreUrgent charged posted
 back-usable = refl
 
+-- of a window that ends eight ticks before the last call the first two ticks lie in it
+pub earlier-held : map (λ s. heldTicks (window (s .terms .period) 8 (held s (past (heard back))))) (stays (heard back)) ≡ 2 ∷ []
+unfolding turn refusal settled timer moreUrgent charged posted
+earlier-held = refl
+
 -- the same with a call at each moment: calls do not break a slice. With a new entry at each call, 1 would be usable.
 abbrev steady : List Call
 steady = at 10 tick ∷ at 3 tick ∷ at 2 tick ∷ at 1 tick ∷ at 0 (wake 2) ∷ at 0 (admit (tenant 10 3)) ∷ []

@@ -168,6 +168,7 @@ meaning calls =
       on-card = λ t. (on-card-says (after calls .vcpus) t, is-on-card (after calls .vcpus) t);
       finds = λ t v. (find-says (after calls) s o k t v, λ p. find-there (after calls) s o k t v (p .0) (p .1));
       reports = λ v f. ap usableOf (only (after calls .vcpus) o v f);
+      reports-card = (refl, refl, refl);
       reports-idle = λ e. ap usableOf (idle-chosen (after calls) s o k e);
       whole = all-imp (λ v q. q .whole) (after calls .vcpus) k;
       sorted = all-imp (λ v q. rising-sorted (suc (after calls .last)) (after calls .last + v .terms .period) (v .pending) (q .order)) (after calls .vcpus) k;

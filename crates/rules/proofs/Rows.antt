@@ -14,7 +14,7 @@ use Rattle.rules.specs.Vcpu.{Description}
 use Rattle.rules.specs.Card.{Card, onCard}
 use Rattle.rules.specs.Change.{Change, admit, wake, block, remove, tick}
 use Rattle.rules.specs.Refuse.{Refusal, row, aboveLargest, belowLast, later, rowLate, above24Bits, admitRows, namingRows, callRows, refusal}
-use Rattle.rules.specs.Turn.{Call, ok, refused, turn, accepted, answered, report}
+use Rattle.rules.specs.Turn.{Call, ok, refused, turn, accepted, answered, report, settled}
 use Rattle.rules.specs.Meaning.{OnTheCard}
 use Rattle.rules.specs.Rows.{AdmitOf, WakeBlockRemoveOf, OutOfRange, Row, row-1, row-2, row-3, row-4, row-5, row-6, row-7, row-8, First, NoRow, Table}
 use Rattle.rules.proofs.Tests.{tests, clash, no-some, cases, and-false}
@@ -255,12 +255,17 @@ module _ (c : Card) (call : Call) where
       go (some r) e = absurd (h (r .number) (r .detail) (says (some r) e .applies))
 
   pub table : Table c call
-  unfolding turn
+  unfolding turn settled
   table =
       record {
         refuses = λ n d. (reads (refusal c (call .now) (call .asked)) (says _ refl) n d, λ f. ap (λ (o : Option Refusal). answered c call o .reply) (given n d f));
         hands-back = back (refusal c (call .now) (call .asked));
-        accepts = (passes (refusal c (call .now) (call .asked)) (says _ refl), λ h. ap (λ (o : Option Refusal). answered c call o .reply) (not-given h));
+        accepts = (
+          passes (refusal c (call .now) (call .asked)) (says _ refl),
+          λ h. ap (λ (o : Option Refusal). answered c call o .reply) (not-given h),
+        );
+        hands-on = λ h. ap (λ (o : Option Refusal). answered c call o .card) (not-given h);
+        at-now = λ h. ap (λ (o : Option Refusal). answered c call o .card .last) (not-given h);
       }
     where
       reads : (o : Option Refusal) → Says o → (n d : ℕ) → answered c call o .reply ≡ refused (record { number = n; detail = d }) → First c call n d

@@ -16,8 +16,8 @@ use Rattle.rules.specs.History.{Exchange, after, heard, time, holder, pa
 use Rattle.rules.specs.Stays.{Stay, lasts, lastsAs, stays, owns, held, heldTicks, window, EachTick, owners}
 use Rattle.rules.specs.Slices.{Slice, slices, recent, ticksOf, returnsOf, everFolds}
 
--- (a) "In any window as long as a tenant's period, within one stay on the card and up to the last accepted call, it held the core for
--- at most its capacity."
+-- (a) "in any window as long as a tenant's period, within one stay and up to the last accepted call, it held the core for at most its
+-- capacity, counted from the history and not from stored sums"
 abbrev pub AtMostCapacity : List Exchange → Stay → Type 0
 AtMostCapacity xs s =
     (before : ℕ) → heldTicks (window (s .terms .period) before (held s (past xs))) ≤ s .terms .capacity
@@ -30,12 +30,12 @@ slicesOf xs s = slices (s .terms .period) (held s (past xs))
 abbrev pub recentOf : List Exchange → Stay → List Slice
 recentOf xs s = recent (s .terms .period) (time xs) (slicesOf xs s)
 
--- "While its return queue has never had to fold in this stay"
+-- "while its return queue has never folded in this stay"
 abbrev pub NeverFolded : List Exchange → Stay → Type 0
 NeverFolded xs s = everFolds (s .terms .period) (slicesOf xs s) ≡ false
 
 -- (b) ".., its usable budget after each accepted call is its capacity less the ticks of this stay's slices begun less than one period
--- before that call."
+-- before that call"
 abbrev pub UsableBudget : List Exchange → Stay → Vcpu → Type 0
 UsableBudget xs s v = NeverFolded xs s → v .usable + ticksOf (recentOf xs s) ≡ s .terms .capacity
 

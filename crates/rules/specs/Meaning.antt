@@ -86,7 +86,8 @@ pub record Meaning (c : Card) : Type 0 where
   -- the rules look an identifier up, all 24 bits of it
   pub on-card : (tunnel : ℕ) → onCard tunnel (c .vcpus) ≡ true ↔ OnTheCard (c .vcpus) tunnel
   pub finds : (tunnel : ℕ) (v : Vcpu) → find tunnel (c .vcpus) ≡ some v ↔ (Among v (c .vcpus) × (v .terms .tunnel ≡ tunnel))
-  -- the report has the usable ticks of the one that runs, 0 in idle
+  -- the report has the time, who runs and the timer of the card, and the usable ticks of the one that runs, 0 in idle
+  pub reports-card : (report c .time ≡ c .last) × (report c .run ≡ c .running) × (report c .timer ≡ c .timer)
   pub reports : (v : Vcpu) → MayRun (c .vcpus) v → report c .usable ≡ v .usable
   pub reports-idle : c .running ≡ none → report c .usable ≡ 0
   -- "Usable plus pending equals C after every accepted call."

@@ -57,3 +57,6 @@ pub record Table (c : Card) (call : Call) : Type 0 where
       → turn c call .reply ≡ refused (record { number = number; detail = detail }) ↔ First c call number detail
   pub hands-back : (r : Refusal) → turn c call .reply ≡ refused r → turn c call .card ≡ c
   pub accepts : turn c call .reply ≡ ok (report (accepted c call)) ↔ NoRow c call
+  -- then the card handed on is that after the five steps, and its time is the call's
+  pub hands-on : NoRow c call → turn c call .card ≡ accepted c call
+  pub at-now : NoRow c call → turn c call .card .last ≡ call .now

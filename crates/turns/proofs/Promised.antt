@@ -2,7 +2,7 @@
 -- in a contract, and of every answer that the contract of a call allows. Assumes nothing.
 use Prim.Native.Nat.{ℕ}
 use mathlib.Core.Path.{_≡_, refl, ap, sym, _∙_, subst}
-use mathlib.Core.List.{List, [], _∷_}
+use mathlib.Core.List.{List, [], _∷_, map}
 use mathlib.Core.Option.{Option, none, some}
 use native.Mathlib.Omega.{arith}
 use Rattle.units.specs.declared.Moment.{Moment}
@@ -35,7 +35,7 @@ use Rattle.turns.specs.declared.Answer.{Answer}
 use Rattle.turns.specs.Written.{card, coreOf}
 use Rattle.turns.specs.Calls.{asked, callOf, paperReply, replySaid, reportSaid, turned}
 use Rattle.turns.specs.State.{Asking, made, callsOf, ValidCore}
-use Rattle.turns.specs.Promised.{exchanges, Accepted, Next, Promised}
+use Rattle.turns.specs.Promised.{Called, none-yet, one-more, exchanges, Accepted, Next, Promised}
 use Rattle.turns.proofs.Paper.{paper-said, said-paper, whole-answer}
 use Rattle.turns.proofs.Made.{kept, tied}
 
@@ -111,6 +111,7 @@ module _ (calls : List Asking) (now : Moment) (change : Change) where
             record {
               five-steps = steps;
               reports = paper ∙ told-so r e ∙ ap (λ (k : Card). ok (report k)) (sym steps);
+              at-now = ap (λ (k : Card). k .last) shown ∙ table old call .at-now (no-row r e);
               budgets = carried (λ k vs. Budgets k call vs) (budgets (callsOf calls) call (none-after (no-row r e)));
               marks = carried (λ k vs. Marks (k .vcpus) (asked change) vs) (marks (callsOf calls) call (none-after (no-row r e)));
             };
@@ -148,3 +149,16 @@ pub next-answer : (c : Core) (v : ValidCore c) (now : Moment) (change : Change) 
 next-answer c v now change a p q =
     subst (Next c now change) (sym (whole-answer c now change a p q))
     (subst (λ (d : Core). Next d now change (turned d now change)) (sym (v .made-by)) (next (v .calls) now change))
+
+-- a host's core is what its own calls make, and its replies are those that demand 3 is told by
+pub called : (calls : List Asking) (replies : List Reply) (c : Core) → Called calls replies c
+    → (c ≡ made calls) × (map paperReply replies ≡ map (λ x. x .reply) (exchanges calls))
+called _ _ c (none-yet _ e) = (e, refl)
+called _ _ _ (one-more calls replies c now change a before p q) =
+    let ih = called calls replies c before in
+    let e : a ≡ turned (made calls) now change =
+    whole-answer c now change a p q ∙ ap (λ (d : Core). turned d now change) (ih .0) in
+    (ap (λ (x : Answer). x .core) e, cons _ _ _ _ (ap (λ (x : Answer). paperReply (x .reply)) e) (ih .1))
+  where
+    cons : (r r′ : Said) (l l′ : List Said) → r ≡ r′ → l ≡ l′ → r ∷ l ≡ r′ ∷ l′
+    cons r r′ l l′ p q = rw (p, q)

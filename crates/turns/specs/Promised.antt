@@ -1,11 +1,13 @@
 -- What a host may rely on, whatever calls it made: the card that its core shows, the history that its calls and the replies tell, and
--- the answer to one call more. Proved of every list of calls, and so of every core in a contract, in proofs/Promised. Assumes nothing.
+-- the answer to one call more. Proved of every list of calls, and of every host that makes them (Called), in proofs/Promised.
+-- Assumes nothing.
 use mathlib.Core.Path.{_≡_}
 use mathlib.Core.List.{List, [], _∷_}
 use mathlib.Core.Logic.{_↔_}
 use Rattle.units.specs.declared.Moment.{Moment}
 use Rattle.rules.specs.Lists.{All}
-use Rattle.rules.specs.Turn.{accepted, ok}
+use Rattle.rules.specs.Card.{empty}
+use Rattle.rules.specs.Turn.{turn, accepted, ok}
 use Rattle.rules.specs.Turn.{report as reportOf}
 use Rattle.rules.specs.Meaning.{Meaning}
 use Rattle.rules.specs.Rows.{First, NoRow}
@@ -17,13 +19,24 @@ use Rattle.turns.specs.declared.Change.{Change}
 use Rattle.turns.specs.declared.Core.{Core}
 use Rattle.turns.specs.declared.Refusal.{Refusal}
 use Rattle.turns.specs.declared.Report.{Report}
+use Rattle.turns.specs.declared.Reply.{Reply}
 use Rattle.turns.specs.declared.Reply.the-variants.{Done, No}
 use Rattle.turns.specs.declared.Answer.{Answer}
 use Rattle.turns.specs.Written.{card, coreOf}
 use Rattle.turns.specs.Calls.{asked, callOf, paperReply, turned}
 use Rattle.turns.specs.State.{Asking, made, callsOf}
 
--- the calls, each with the paper's number and values of the reply that the code gives; the newest first
+-- a host made these calls, each on the core that the one before it handed back, and got these replies and this core; of the functions
+-- it knows their contracts alone. The newest call stands first
+pub data Called : List Asking → List Reply → Core → Type 0 where
+  none-yet : (c : Core) → c ≡ coreOf empty → Called [] [] c
+  one-more : (calls : List Asking) (replies : List Reply) (c : Core) (now : Moment) (change : Change) (a : Answer)
+      → Called calls replies c
+      → paperReply (a .reply) ≡ (turn (card c) (callOf now change)) .reply
+      → a .core ≡ coreOf ((turn (card c) (callOf now change)) .card)
+      → Called (record { now = now; change = change } ∷ calls) (a .reply ∷ replies) (a .core)
+
+-- the calls, each with the paper's number and values of its reply; the newest first
 abbrev pub exchanges : List Asking → List Exchange
 exchanges [] = []
 exchanges (a ∷ calls) =
@@ -34,6 +47,7 @@ exchanges (a ∷ calls) =
 pub record Accepted (c : Core) (now : Moment) (change : Change) (a : Answer) : Type 0 where
   pub five-steps : card (a .core) ≡ accepted (card c) (callOf now change)
   pub reports : paperReply (a .reply) ≡ ok (reportOf (card (a .core)))
+  pub at-now : card (a .core) .last ≡ now .0
   -- what steps 1 and 2, and step 3, mean; what steps 4 and 5 mean is in Meaning
   pub budgets : Budgets (card c) (callOf now change) (card (a .core) .vcpus)
   pub marks : Marks (card c .vcpus) (asked change) (card (a .core) .vcpus)
@@ -53,7 +67,7 @@ pub record Promised (calls : List Asking) : Type 0 where
   pub is : made calls ≡ coreOf (after (callsOf calls))
   -- steps 4 and 5, the budgets and the limits of the card shown
   pub meaning : Meaning (card (made calls))
-  -- demand 3 is told by these calls and the replies that the code gave
+  -- demand 3 is told by these calls and their replies
   pub told : exchanges calls ≡ heard (callsOf calls)
   pub demand3 : Demand3 (callsOf calls)
   -- every VCPU on the card, with its stay: the bound and the usable budget

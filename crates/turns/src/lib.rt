@@ -33,11 +33,11 @@ const NEVER: u64 = LAST_MOMENT;
 // The identifier of a vacant place, above 24 bits.
 const NOBODY: u32 = 4294967295;
 // The place of the holder in idle.
-const IDLE: usize = 32;
+const IDLE: usize = MOST_VCPUS;
 // The place of an identifier that is not on the card.
-const NOWHERE: usize = 32;
+const NOWHERE: usize = MOST_VCPUS;
 
-const LAST_PLACE: usize = 31;
+const LAST_PLACE: usize = MOST_VCPUS - 1;
 
 // The whole VCPU description that an admit carries.
 pub struct Description {
@@ -227,7 +227,8 @@ impl Core {
             }
             Change::Tick => {}
         }
-        // 4. Choose: the table is in the order of urgency, and every place in use is looked at.
+        // 4. Choose: the first ready one, since the table is in the order of urgency. The scan goes on to the last place in use, so that
+        // a call's work depends on how many there are and not on who is ready.
         let mut pick = Pick {
             at: IDLE,
             usable: Amount::new(0),
@@ -304,7 +305,7 @@ impl Core {
         self.turn(now, Change::Tick)
     }
 
-    // What is known of the VCPU so named.
+    // What is known of the VCPU so named. A vacant place has an identifier above 24 bits, which must not be found.
     pub fn look(self, id: Tunnel) -> Look
         requires { ⌜ ValidCore self ⌝ }
         ensures { λ r. ⌜ paperPresence (r .presence) ≡ onCard (id .0) (card self .vcpus) ⌝ }

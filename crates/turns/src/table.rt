@@ -31,7 +31,7 @@ pub(crate) fn find(ids: [Tunnel; MOST_VCPUS], id: Tunnel) -> usize
     NOWHERE
 }
 
-// The place of the VCPU that a call names; a tick names nobody.
+// The place of the VCPU that a call names; a tick names nobody. An identifier above 24 bits may give a vacant place: row 4 comes first.
 pub(crate) fn named(ids: [Tunnel; MOST_VCPUS], change: Change) -> usize
     ensures { λ r. ⌜ r ≡ namedAt ids change ⌝ }
 {
