@@ -97,7 +97,8 @@ pub in-time : (c : Card) (now : ℕ) → Settled c → ((t : ℕ) → count (nam
     → All (λ v. holds (v .terms .tunnel) (c .running) ≡ true → now ≤ c .last + v .usable) (c .vcpus)
 in-time c now s once late = among-all _ (c .vcpus) (λ v m h. go v m (choose (c .vcpus)) refl (rw (s .runs-chosen) at h))
   where
-    go : (v : Vcpu) → Among v (c .vcpus) → (o : Option Vcpu) → choose (c .vcpus) ≡ o → holds (v .terms .tunnel) (runs o) ≡ true → now ≤ c .last + v .usable
+    go : (v : Vcpu) → Among v (c .vcpus) → (o : Option Vcpu) → choose (c .vcpus) ≡ o → holds (v .terms .tunnel) (runs o) ≡ true
+        → now ≤ c .last + v .usable
     go v m none e h = clash (sym h)
     go v m (some w) e h =
         let f = chosen (c .vcpus) w e in

@@ -143,7 +143,8 @@ module _ (c : Card) (d : ℕ) (ss : List Stay) (h : List (Option ℕ)) (l : Lawf
         tied = rw g (tied-return (w .terms .period) (c .last + d) (w .ended) low high (w .pending) (ticks d b (held s h)) r t);
       }
 
-  pair-step : (s : Stay) (v : Vcpu) → Dated (c .last) s → lasts (s .until) ≡ true → Among v (c .vcpus) → v .terms .tunnel ≡ s .terms .tunnel
+  pair-step : (s : Stay) (v : Vcpu) → Dated (c .last) s → lasts (s .until) ≡ true → Among v (c .vcpus)
+      → v .terms .tunnel ≡ s .terms .tunnel
       → Pair (c .last) s v h → Pair (c .last + d) s (step v) (ticks d (c .running) h)
   pair-step s v g u m e p = ⊎-elim ran waited (cases (holds (v .terms .tunnel) (c .running)))
     where

@@ -20,7 +20,8 @@ use Rattle.rules.specs.Stays.{Stay, lasts, lastsAs, withEnd, changeStays
 use Rattle.rules.specs.Slices.{recent, returnsOf}
 use Rattle.rules.proofs.Tests.{clash, no-some, cases}
 use Rattle.rules.proofs.Named.{named-says, is-named, not-named}
-use Rattle.rules.proofs.Lists.{all-imp, all-map, all-every, all-among, among-all, all-keep, among-keep, count-none, count-among, count-same, any-false}
+use Rattle.rules.proofs.Lists.{all-imp, all-map, all-every, all-among, among-all, all-keep, among-keep, count-none}
+use Rattle.rules.proofs.Lists.{count-among, count-same, any-false}
 use Rattle.rules.proofs.Slices.{begun-idle, begun-none, going, going-gap, slices-idle}
 use Rattle.rules.proofs.Sound.{Sound, sound-admitted, sound-set}
 use Rattle.rules.proofs.Window.{within-none, within-idle}
@@ -39,7 +40,8 @@ all-placed P v (w ∷ vs) p h = go (moreUrgent (v .terms) (w .terms)) (all-place
     go false k = (h .0, k)
 
 pub among-placed : (v : Vcpu) (vs : List Vcpu) (w : Vcpu) → Among w (placed v vs) → (w ≡ v) ⊎ Among w vs
-among-placed v vs w m = all-among (λ u. (u ≡ v) ⊎ Among u vs) (placed v vs) (all-placed _ v vs (inl refl) (among-all _ vs (λ u k. inr k))) w m
+among-placed v vs w m = all-among (λ u. (u ≡ v) ⊎ Among u vs) (placed v vs)
+    (all-placed _ v vs (inl refl) (among-all _ vs (λ u k. inr k))) w m
 
 pub placed-itself : (v : Vcpu) (vs : List Vcpu) → Among v (placed v vs)
 placed-itself v [] = inl refl
@@ -123,7 +125,13 @@ module _ (now : ℕ) (vs : List Vcpu) (ss : List Stay) (h : List (Option ℕ)) (
 
     no-stay-so-named : (s : Stay) → Among s ss → lasts (s .until) ≡ true → s .terms .tunnel ≡ d .tunnel → ⊥
     no-stay-so-named s m u e =
-        omega (arith, nobody-so-named, l .on-card (d .tunnel), count-among (lastsAs (d .tunnel)) ss s m (rw (u, eq-eqb (s .terms .tunnel) (d .tunnel) e)))
+        omega (
+          arith,
+          nobody-so-named,
+          l .on-card (d .tunnel),
+          count-among (lastsAs (d .tunnel)) ss s m
+              (rw (u, eq-eqb (s .terms .tunnel) (d .tunnel) e)),
+        )
 
     held-nothing : held newStay h ≡ ticks (length h) false []
     held-nothing = held-new newStay h (omega (arith, l .long))
@@ -135,7 +143,8 @@ module _ (now : ℕ) (vs : List Vcpu) (ss : List Stay) (h : List (Option ℕ)) (
           tied = rw held-nothing
               (record {
                 at-most = λ x k. omega (arith, begun-idle (d .period) x (length h) [], begun-none (d .period) x);
-                one-for-one = λ f. sym (ap (λ ss. returnsOf (d .period) (recent (d .period) now ss)) (slices-idle (d .period) (length h) []));
+                one-for-one = λ f. sym (ap (λ ss. returnsOf (d .period) (recent (d .period) now ss))
+                    (slices-idle (d .period) (length h) []));
                 goes-on = λ g. absurd (omega (arith, none-going (length h)));
                 since = λ e w k. clash (sym w);
               });
@@ -161,7 +170,11 @@ module _ (now : ℕ) (vs : List Vcpu) (ss : List Stay) (h : List (Option ℕ)) (
                 (λ s m u. all-placed (λ v. v .terms .tunnel ≡ s .terms .tunnel → Pair now s v h) (admitted d) vs
                 (λ e. absurd (no-stay-so-named s m u (sym e))) (all-among (Paired now vs h) ss (l .paired) s m u)),
           );
-          bounded = (rw held-nothing (within-idle (d .period) (d .capacity) (length h) [] (within-none (d .period) (d .capacity))), l .bounded);
+          bounded = (
+            rw held-nothing (within-idle (d .period) (d .capacity) (length h) []
+                (within-none (d .period) (d .capacity))),
+            l .bounded,
+          );
           owned = each-imp (λ o n. owners ss o n ≡ 1) (λ o n. owners (newStay ∷ ss) o n ≡ 1) h
               (λ o n k e. rw (owns-none newStay o n (omega (arith, l .long))) (omega arith)) (l .owned);
         }
@@ -207,7 +220,8 @@ module _ (now : ℕ) (vs : List Vcpu) (ss : List Stay) (h : List (Option ℕ)) (
         gone ss e =
             count-none (lastsAs u) (map (withEnd now t) ss)
             (all-map {P = λ s. Unit {0}} (λ s. lastsAs u s ≡ false) (withEnd now t)
-            (λ s p. subst (λ (x : ℕ). lasts (withEnd now t s .until) && eqb (s .terms .tunnel) x ≡ false) (sym e) (ended (s .until) (eqb (s .terms .tunnel) t)))
+            (λ s p. subst (λ (x : ℕ). lasts (withEnd now t s .until) && eqb (s .terms .tunnel) x ≡ false) (sym e)
+            (ended (s .until) (eqb (s .terms .tunnel) t)))
             ss (all-every (λ s. tt) ss))
 
         spared : (s : Stay) → (u ≡ t → ⊥) → (o : Option ℕ) (b : Bool) → eqb (s .terms .tunnel) t ≡ b
@@ -218,7 +232,8 @@ module _ (now : ℕ) (vs : List Vcpu) (ss : List Stay) (h : List (Option ℕ)) (
 
         same : (ss : List Stay) → (u ≡ t → ⊥) → count (lastsAs u) (map (withEnd now t) ss) ≡ count (lastsAs u) ss
         same ss n =
-            count-same (lastsAs u) (lastsAs u) (withEnd now t) ss (all-every (λ s. spared s n (s .until) (eqb (s .terms .tunnel) t) refl) ss)
+            count-same (lastsAs u) (lastsAs u) (withEnd now t) ss
+            (all-every (λ s. spared s n (s .until) (eqb (s .terms .tunnel) t) refl) ss)
 
     count-left : (u : ℕ) (vs : List Vcpu) → count (named u) (keep other vs) ≡ cond (eqb u t) 0 (count (named u) vs)
     count-left u vs = ⊎-elim (λ e. rw e (gone vs (eqb-true u t e))) (λ e. rw e (same vs (eqb-false u t e))) (cases (eqb u t))
@@ -269,7 +284,11 @@ module _ (now : ℕ) (vs : List Vcpu) (ss : List Stay) (h : List (Option ℕ)) (
         left-paired : (s : Stay) → Paired now vs h s → Paired now (keep other vs) h (withEnd now t s)
         left-paired s p u =
             all-keep (λ v. v .terms .tunnel ≡ s .terms .tunnel → Pair now (withEnd now t s) v h) other vs
-            (all-imp (λ v q e. record { same-terms = q e .same-terms; tied = rw (held-end now t s h (omega (arith, l .long))) (q e .tied) }) vs
+            (all-imp (λ v q e. record {
+              same-terms = q e .same-terms;
+              tied = rw (held-end now t s h (omega (arith, l .long)))
+                  (q e .tied);
+            }) vs
             (p (goes-on s u .0)))
 
   pub changed : (asked : Change) → callRows vs asked ≡ none → Lawful now (change asked vs) (changeStays now asked ss) h

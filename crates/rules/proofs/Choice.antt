@@ -62,7 +62,8 @@ most-urgent-says (x ∷ l) v e = go (mostUrgent l) (λ w. most-urgent-says l w) 
 
 pub chosen : (vs : List Vcpu) (v : Vcpu) → choose vs ≡ some v → MayRun vs v
 chosen vs v e =
-    let p : Among v (keep ready vs) × All (λ w. moreUrgent (w .terms) (v .terms) ≡ false) (keep ready vs) = most-urgent-says (keep ready vs) v e in
+    let p : Among v (keep ready vs) × All (λ w. moreUrgent (w .terms) (v .terms) ≡ false) (keep ready vs) = most-urgent-says
+    (keep ready vs) v e in
     let q : Among v vs × (ready v ≡ true) = among-keep ready vs v (p .0) in
     record {
       on-card = q .0;
@@ -91,12 +92,14 @@ only vs once v f = go (choose vs) refl
     neither a b g h = no-more (a .terms) (b .terms) (all-among _ vs (h .most-urgent) a (g .on-card) (g .runnable) (g .has-ticks))
 
     eq : (w : Vcpu) → MayRun vs w → w ≡ v
-    eq w g = ⊎-elim (λ e. same w g (eqb-true (w .terms .tunnel) (v .terms .tunnel) e)) (λ e. apart e) (cases (eqb (w .terms .tunnel) (v .terms .tunnel)))
+    eq w g = ⊎-elim (λ e. same w g (eqb-true (w .terms .tunnel) (v .terms .tunnel) e)) (λ e. apart e)
+        (cases (eqb (w .terms .tunnel) (v .terms .tunnel)))
       where
         apart : eqb (w .terms .tunnel) (v .terms .tunnel) ≡ false → w ≡ v
         apart e =
             clash
-            (sym (total (w .terms) (v .terms) (λ q. clash (sym (eq-eqb (w .terms .tunnel) (v .terms .tunnel) q) ∙ e)) (neither w v g f)) ∙ neither v w f g)
+            (sym (total (w .terms) (v .terms) (λ q. clash (sym (eq-eqb (w .terms .tunnel) (v .terms .tunnel) q) ∙ e)) (neither w v g f))
+            ∙ neither v w f g)
 
     go : (o : Option Vcpu) → choose vs ≡ o → choose vs ≡ some v
     go none e =

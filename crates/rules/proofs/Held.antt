@@ -25,7 +25,8 @@ length-held s [] = refl
 length-held s (o ∷ h) = ap suc (length-held s h)
 
 -- a tick from `last` on is the stay's exactly where it lasts and has the holder's identifier
-pub owns-now : (s : Stay) (o : Option ℕ) (last n : ℕ) → Dated last s → last ≤ n → owns s o n ≡ lasts (s .until) && holds (s .terms .tunnel) o
+pub owns-now : (s : Stay) (o : Option ℕ) (last n : ℕ) → Dated last s → last ≤ n
+    → owns s o n ≡ lasts (s .until) && holds (s .terms .tunnel) o
 owns-now s o last n d h = go (s .until) refl (holds (s .terms .tunnel) o)
   where
     go : (u : Option ℕ) → s .until ≡ u → (b : Bool) → b && leb (s .from) n && beforeEnd u n ≡ lasts u && b
@@ -75,11 +76,13 @@ held-end now tunnel s [] k = refl
 held-end now tunnel s (o ∷ h) k =
     rw (owns-end now tunnel s o (length h) k, held-end now tunnel s h (omega arith))
 
-pub each-imp : (P Q : Option ℕ → ℕ → Type 0) (h : List (Option ℕ)) → ((o : Option ℕ) (n : ℕ) → n < length h → P o n → Q o n) → EachTick P h → EachTick Q h
+pub each-imp : (P Q : Option ℕ → ℕ → Type 0) (h : List (Option ℕ)) → ((o : Option ℕ) (n : ℕ) → n < length h → P o n → Q o n)
+    → EachTick P h → EachTick Q h
 each-imp P Q [] f e = tt
 each-imp P Q (o ∷ h) f e = (f o (length h) (omega arith) (e .0), each-imp P Q h (λ o n k. f o n (omega arith)) (e .1))
 
-pub each-more : (P : Option ℕ → ℕ → Type 0) (d : ℕ) (o : Option ℕ) (h : List (Option ℕ)) → ((n : ℕ) → length h ≤ n → P o n) → EachTick P h → EachTick P (ticks d o h)
+pub each-more : (P : Option ℕ → ℕ → Type 0) (d : ℕ) (o : Option ℕ) (h : List (Option ℕ)) → ((n : ℕ) → length h ≤ n → P o n) → EachTick P h
+    → EachTick P (ticks d o h)
 each-more P zero o h f e = e
 each-more P (suc d) o h f e = (f (length (ticks d o h)) (omega (arith, length-ticks d o h)), each-more P d o h f e)
 

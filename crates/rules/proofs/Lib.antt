@@ -1,4 +1,5 @@
--- The theorems about the rules (Demand3, Meaning, Rows, Marks, Budgets), computed examples (Case, Examples, HeadEntry), and the laws that carry
+-- The theorems about the rules (Demand3, Meaning, Rows, Marks, Budgets), computed examples (Case, Examples, HeadEntry), and the laws that
+-- carry
 -- them. Assumes nothing.
 pub mod Demand3
 pub mod Meaning

@@ -24,7 +24,8 @@ module _ {A : Type 0} where
   all-every f [] = tt
   all-every f (a ∷ l) = (f a, all-every f l)
 
-  pub all-map : {B : Type 0} {P : A → Type 0} (Q : B → Type 0) (g : A → B) → ((a : A) → P a → Q (g a)) → (l : List A) → All P l → All Q (map g l)
+  pub all-map : {B : Type 0} {P : A → Type 0} (Q : B → Type 0) (g : A → B) → ((a : A) → P a → Q (g a)) → (l : List A) → All P l
+      → All Q (map g l)
   all-map Q g f [] h = tt
   all-map Q g f (a ∷ l) h = (f a (h .0), all-map Q g f l (h .1))
 
@@ -87,7 +88,8 @@ module _ {A : Type 0} where
   none-kept test [] e = tt
   none-kept test (a ∷ l) e = go (test a) refl (λ f. none-kept test l f) e
     where
-      go : (t : Bool) → test a ≡ t → (keep test l ≡ [] → All (λ b. test b ≡ false) l) → cond t (a ∷ keep test l) (keep test l) ≡ [] → (test a ≡ false) × All (λ b. test b ≡ false) l
+      go : (t : Bool) → test a ≡ t → (keep test l ≡ [] → All (λ b. test b ≡ false) l) → cond t (a ∷ keep test l) (keep test l) ≡ []
+          → (test a ≡ false) × All (λ b. test b ≡ false) l
       go true f ih e = let z : _≡_ {A = ℕ} 0 1 = cc in absurd (omega arith)
       go false f ih e = (f, ih e)
 
@@ -132,16 +134,19 @@ module _ {A : Type 0} where
       go false e k ih = let p = ih (omega arith) in (p .0, inr (p .1), p .2)
 
   -- the same tests all along, the same count
-  pub count-same : {B : Type 0} (test : A → Bool) (test′ : B → Bool) (g : A → B) (l : List A) → All (λ a. test′ (g a) ≡ test a) l → count test′ (map g l) ≡ count test l
+  pub count-same : {B : Type 0} (test : A → Bool) (test′ : B → Bool) (g : A → B) (l : List A) → All (λ a. test′ (g a) ≡ test a) l
+      → count test′ (map g l) ≡ count test l
   count-same test test′ g [] h = refl
   count-same test test′ g (a ∷ l) h = rw (h .0, count-same test test′ g l (h .1))
 
-  pub any-same : {B : Type 0} (test : A → Bool) (test′ : B → Bool) (g : A → B) (l : List A) → ((a : A) → test′ (g a) ≡ test a) → any test′ (map g l) ≡ any test l
+  pub any-same : {B : Type 0} (test : A → Bool) (test′ : B → Bool) (g : A → B) (l : List A) → ((a : A) → test′ (g a) ≡ test a)
+      → any test′ (map g l) ≡ any test l
   any-same test test′ g [] h = refl
   any-same test test′ g (a ∷ l) h = rw (h a, any-same test test′ g l h)
 
   -- of those that pass, at most one is there: two of them are the same
-  pub only-one : (test : A → Bool) (l : List A) → count test l ≤ 1 → (a b : A) → Among a l → Among b l → test a ≡ true → test b ≡ true → a ≡ b
+  pub only-one : (test : A → Bool) (l : List A) → count test l ≤ 1 → (a b : A) → Among a l → Among b l → test a ≡ true → test b ≡ true
+      → a ≡ b
   only-one test (c ∷ l) h a b (inl e) (inl f) p q = e ∙ sym f
   only-one test (c ∷ l) h a b (inl e) (inr n) p q =
       let t : test c ≡ true = subst (λ (x : A). test x ≡ true) e p in

@@ -119,7 +119,8 @@ module _ (c : Card) (now : ℕ) (once : (t : ℕ) → count (named t) (c .vcpus)
       back : RunnableThen (c .vcpus) asked (v .terms .tunnel) → v .runnable ≡ true
       back (inl e) = absurd (f e)
       back (inr p) =
-          let q : w .who ≡ p .0 .0 = only-one (named (v .terms .tunnel)) (c .vcpus) (once (v .terms .tunnel)) (w .who) (p .0 .0) (w .on-card) (p .0 .1)
+          let q : w .who ≡ p .0 .0 = only-one (named (v .terms .tunnel)) (c .vcpus) (once (v .terms .tunnel)) (w .who) (p .0 .0)
+          (w .on-card) (p .0 .1)
           (is-named (v .terms .tunnel) (w .who) same) (is-named (v .terms .tunnel) (p .0 .0) (p .0 .2)) in
           w .same-mark ∙ ap (λ x. x .runnable) q ∙ p .0 .3
 
@@ -139,7 +140,8 @@ module _ (c : Card) (now : ℕ) (once : (t : ℕ) → count (named t) (c .vcpus)
   -- wake and block: the one so named, and all others
   toggled : (asked : Change) (t : ℕ) (b : Bool) (v : Vcpu) → Among v (toNamed t (setRunnable b) (afterReturn c now))
       → (v .terms .tunnel ≡ t → v .runnable ≡ b → Mark asked v)
-      → ((v .terms .tunnel ≡ t → ⊥) → (asked ≡ wake (v .terms .tunnel) → ⊥) × (asked ≡ block (v .terms .tunnel) → ⊥) × (AdmitOf asked (v .terms .tunnel) → ⊥))
+      → ((v .terms .tunnel ≡ t → ⊥) → (asked ≡ wake (v .terms .tunnel) → ⊥) × (asked ≡ block (v .terms .tunnel) → ⊥) ×
+      (AdmitOf asked (v .terms .tunnel) → ⊥))
       → Mark asked v
   toggled asked t b v m f g = go (named t v) refl
     where
@@ -196,7 +198,8 @@ module _ (c : Card) (now : ℕ) (once : (t : ℕ) → count (named t) (c .vcpus)
       λ p. let q = stays-there t .1 p in (q .0, placed-among (admitted d) (afterReturn c now) (q .0) (q .1), q .2),
     )
       where
-        go : (p : OnTheCard (placed (admitted d) (afterReturn c now)) t) → (p .0 ≡ admitted d) ⊎ Among (p .0) (afterReturn c now) → OnTheCard (c .vcpus) t
+        go : (p : OnTheCard (placed (admitted d) (afterReturn c now)) t) → (p .0 ≡ admitted d) ⊎ Among (p .0) (afterReturn c now)
+            → OnTheCard (c .vcpus) t
         go p (inl e) = absurd (f (d, refl, ap (λ x. x .terms .tunnel) (sym e) ∙ p .2))
         go p (inr k) = stays-there t .0 (p .0, k, p .2)
 
@@ -206,7 +209,8 @@ module _ (c : Card) (now : ℕ) (once : (t : ℕ) → count (named t) (c .vcpus)
 
     spared : (v : Vcpu) → Among v left → Mark (remove t) v
     spared v m =
-        kept (remove t) v (among-keep (λ v. not (named t v)) (afterReturn c now) v m .0) (λ e. omega (arith, ap kind e)) (λ e. omega (arith, ap kind e))
+        kept (remove t) v (among-keep (λ v. not (named t v)) (afterReturn c now) v m .0) (λ e. omega (arith, ap kind e))
+        (λ e. omega (arith, ap kind e))
         (λ p. omega (arith, ap kind (p .1)))
 
     gone : (u : ℕ) → t ≡ u → OnTheCard left u → ⊥
@@ -218,7 +222,8 @@ module _ (c : Card) (now : ℕ) (once : (t : ℕ) → count (named t) (c .vcpus)
     left-there : (u : ℕ) → (t ≡ u → ⊥) → OnTheCard left u ↔ OnTheCard (c .vcpus) u
     left-there u f = (
       λ p. stays-there u .0 (p .0, among-keep (λ v. not (named t v)) (afterReturn c now) (p .0) (p .1) .0, p .2),
-      λ p. let q = stays-there u .1 p in (q .0, keep-among (λ v. not (named t v)) (afterReturn c now) (q .0) (q .1) (rw (not-named t (q .0) (λ e. f (sym e ∙ q .2)))), q .2),
+      λ p. let q = stays-there u .1 p in
+          (q .0, keep-among (λ v. not (named t v)) (afterReturn c now) (q .0) (q .1) (rw (not-named t (q .0) (λ e. f (sym e ∙ q .2)))), q .2),
     )
 
   -- wake, block, tick: everybody stays
@@ -240,7 +245,8 @@ module _ (c : Card) (now : ℕ) (once : (t : ℕ) → count (named t) (c .vcpus)
         runnable = entered d free;
         admits = λ x f. let q : d ≡ x = cc in (admitted d, placed-itself (admitted d) (afterReturn c now), ap (λ x. x .tunnel) q);
         starts = λ x f. let q : d ≡ x = cc in
-            subst (λ (x : Description). (v : Vcpu) → Among v (placed (admitted d) (afterReturn c now)) → v .terms .tunnel ≡ x .tunnel → Newcomer x v) q
+            subst (λ (x : Description). (v : Vcpu) → Among v
+            (placed (admitted d) (afterReturn c now)) → v .terms .tunnel ≡ x .tunnel → Newcomer x v) q
             (starts-anew d free);
         removes = λ t f. absurd (omega (arith, ap kind f));
         others = λ t f g. entered-there d free t f;
@@ -257,7 +263,8 @@ module _ (c : Card) (now : ℕ) (once : (t : ℕ) → count (named t) (c .vcpus)
       }
   marks-of tick e =
       all-stay tick _ (omega arith) (omega arith)
-      (λ v m. kept tick v m (λ e. omega (arith, ap kind e)) (λ e. omega (arith, ap kind e)) (λ p. omega (arith, ap kind (p .1)))) stays-there
+      (λ v m. kept tick v m (λ e. omega (arith, ap kind e)) (λ e. omega (arith, ap kind e))
+      (λ p. omega (arith, ap kind (p .1)))) stays-there
 
 pub marks : (calls : List Call) (call : Call) → NoRow (after calls) call
     → Marks (after calls .vcpus) (call .asked) (after (call ∷ calls) .vcpus)
@@ -265,4 +272,5 @@ unfolding settled
 marks calls call h =
     let e = not-given (after calls) call h in
     subst (λ (d : Card). Marks (after calls .vcpus) (call .asked) (d .vcpus)) (sym (card-accepted (after calls) call e))
-    (marks-of (after calls) (call .now) (reached calls .lawful .once) (call .asked) (passed (after calls) (call .now) (call .asked) e .asked-for))
+    (marks-of (after calls) (call .now) (reached calls .lawful .once) (call .asked)
+    (passed (after calls) (call .now) (call .asked) e .asked-for))

@@ -42,7 +42,8 @@ time-high (call ∷ calls) = go (refusal (after calls) (call .now) (call .asked)
 
 not-ready : (v : Vcpu) → ready v ≡ false → v .runnable ≡ true → v .usable ≡ 0
 not-ready v e r =
-    ⊎-elim (λ z. clash (sym (is-ready v r (ltb-true 0 (v .usable) z)) ∙ e)) (λ z. omega (arith, ltb-false 0 (v .usable) z)) (cases (ltb 0 (v .usable)))
+    ⊎-elim (λ z. clash (sym (is-ready v r (ltb-true 0 (v .usable) z)) ∙ e)) (λ z. omega (arith, ltb-false 0 (v .usable) z))
+    (cases (ltb 0 (v .usable)))
 
 unready : (v : Vcpu) → (v .runnable ≡ true → v .usable ≡ 0) → ready v ≡ false
 unready v f = go (v .runnable) refl
@@ -125,8 +126,10 @@ module _ (c : Card) (s : Settled c) (once : (t : ℕ) → count (named t) (c .vc
   unfolding timer
   no-timer-says e = go (choose (c .vcpus)) refl (sym (s .timer-set) ∙ e)
     where
-      nothing : (v : Vcpu) → Sound (c .last) v → (v .runnable ≡ true → v .usable ≡ 0) × (v .runnable ≡ true → v .pending ≡ []) → v .runnable ≡ false
-      nothing v k p = ⊎-elim (λ z. absurd (omega (arith, p .0 z, k .whole, ap total (p .1 z), k .range .capacity-low))) (λ z. z) (cases (v .runnable))
+      nothing : (v : Vcpu) → Sound (c .last) v → (v .runnable ≡ true → v .usable ≡ 0) × (v .runnable ≡ true → v .pending ≡ [])
+          → v .runnable ≡ false
+      nothing v k p = ⊎-elim (λ z. absurd (omega (arith, p .0 z, k .whole, ap total (p .1 z), k .range .capacity-low))) (λ z. z)
+          (cases (v .runnable))
 
       go : (o : Option Vcpu) → choose (c .vcpus) ≡ o → timer (c .last) (c .vcpus) o ≡ none → All (λ v. v .runnable ≡ false) (c .vcpus)
       go none f g =
@@ -171,8 +174,10 @@ meaning calls =
       reports-card = (refl, refl, refl);
       reports-idle = λ e. ap usableOf (idle-chosen (after calls) s o k e);
       whole = all-imp (λ v q. q .whole) (after calls .vcpus) k;
-      sorted = all-imp (λ v q. rising-sorted (suc (after calls .last)) (after calls .last + v .terms .period) (v .pending) (q .order)) (after calls .vcpus) k;
-      to-come = all-imp (λ v q. rising-all (suc (after calls .last)) (after calls .last + v .terms .period) (v .pending) (q .order)) (after calls .vcpus) k;
+      sorted = all-imp (λ v q. rising-sorted (suc (after calls .last)) (after calls .last + v .terms .period) (v .pending) (q .order))
+          (after calls .vcpus) k;
+      to-come = all-imp (λ v q. rising-all (suc (after calls .last)) (after calls .last + v .terms .period) (v .pending) (q .order))
+          (after calls .vcpus) k;
       time-high = time-high calls;
       few-vcpus = r .lawful .few;
       in-range = all-imp (λ v q. q .range) (after calls .vcpus) k;

@@ -128,7 +128,8 @@ to-last low high d f (e ∷ []) r w n h k =
     }
 to-last low high d f (e ∷ g ∷ q) r w n h k =
     let p = to-last (e .due) high d f (g ∷ q) (r .2) refl (omega (arith, n)) h k in
-    let o : lastDue (e ∷ toLast (with f d) (g ∷ q)) ≡ lastDue (toLast (with f d) (g ∷ q)) = ap (λ x. x .due) (last-of e (toLast (with f d) (g ∷ q)) (p .waits)) in
+    let o : lastDue (e ∷ toLast (with f d) (g ∷ q)) ≡ lastDue (toLast (with f d) (g ∷ q)) = ap (λ x. x .due)
+    (last-of e (toLast (with f d) (g ∷ q)) (p .waits)) in
     record {
       in-all = omega (arith, p .in-all);
       order = (r .0, r .1, p .order);
@@ -152,7 +153,8 @@ append low high d e [] r n l h k a =
     }
 append low high d e (b ∷ q) r n l h k a =
     let p : Posted (b .due) high d q (q ++ e ∷ []) =
-    append (b .due) high d e q (r .2) (omega (arith, n)) (before q (r .2) (h refl)) (λ w. omega (arith, ap (λ x. x .due) (last-of b q w), h refl)) k a in
+    append (b .due) high d e q (r .2) (omega (arith, n)) (before q (r .2) (h refl))
+    (λ w. omega (arith, ap (λ x. x .due) (last-of b q w), h refl)) k a in
     let o : lastDue (b ∷ (q ++ e ∷ [])) ≡ lastDue (q ++ e ∷ []) = ap (λ x. x .due) (last-of b (q ++ e ∷ []) (p .waits)) in
     record {
       in-all = omega (arith, p .in-all);
@@ -214,7 +216,8 @@ posts last d v h r n = ⊎-elim join (λ j. ⊎-elim (fold j) (new j) (cases (fo
         (append (suc last) (last + v .terms .period) d _ (v .pending) r (appends-says last v j t) (omega arith)
         (λ w. omega (arith, last-between (suc last) (last + v .terms .period) (v .pending) r w .1)) (omega arith) (omega arith))
 
-last-due : (d g due : ℕ) (f : Entry → ℕ) (q : List Entry) → waiting q ≡ true → f (final q) + g ≡ due → lastDue (toLast (with f d) q) + g ≡ due
+last-due : (d g due : ℕ) (f : Entry → ℕ) (q : List Entry) → waiting q ≡ true → f (final q) + g ≡ due
+    → lastDue (toLast (with f d) q) + g ≡ due
 last-due d g due f q w e = ap (λ x. x .due + g) (final-to-last (with f d) q w) ∙ e
 
 new-due : (g due : ℕ) (e : Entry) (q : List Entry) → e .due + g ≡ due → lastDue (q ++ e ∷ []) + g ≡ due

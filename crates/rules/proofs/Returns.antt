@@ -131,4 +131,5 @@ pub returns-begin : (T last d : ℕ) (ss : List Slice) → 1 ≤ T
     → returnsOf T (recent T last ss) ++ record { due = last + T; amount = d } ∷ []
     ≡ returnsOf T (recent T last (record { start = last; long = d } ∷ ss))
 returns-begin T last d ss h =
-    rw (is-recent T last (record { start = last; long = d }) (omega arith)) (sym (returns-cons T (record { start = last; long = d }) (recent T last ss)))
+    rw (is-recent T last (record { start = last; long = d }) (omega arith))
+    (sym (returns-cons T (record { start = last; long = d }) (recent T last ss)))

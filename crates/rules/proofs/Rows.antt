@@ -13,10 +13,12 @@ use Rattle.rules.specs.Limits.{largestTime, largestTunnel, largestPeriod
 use Rattle.rules.specs.Vcpu.{Description}
 use Rattle.rules.specs.Card.{Card, onCard}
 use Rattle.rules.specs.Change.{Change, admit, wake, block, remove, tick}
-use Rattle.rules.specs.Refuse.{Refusal, row, aboveLargest, belowLast, later, rowLate, above24Bits, admitRows, namingRows, callRows, refusal}
+use Rattle.rules.specs.Refuse.{Refusal, row, aboveLargest, belowLast, later, rowLate, above24Bits, admitRows, namingRows}
+use Rattle.rules.specs.Refuse.{callRows, refusal}
 use Rattle.rules.specs.Turn.{Call, ok, refused, turn, accepted, answered, report, settled}
 use Rattle.rules.specs.Meaning.{OnTheCard}
-use Rattle.rules.specs.Rows.{AdmitOf, WakeBlockRemoveOf, OutOfRange, Row, row-1, row-2, row-3, row-4, row-5, row-6, row-7, row-8, First, NoRow, Table}
+use Rattle.rules.specs.Rows.{AdmitOf, WakeBlockRemoveOf, OutOfRange, Row, row-1, row-2, row-3, row-4, row-5, row-6, row-7}
+use Rattle.rules.specs.Rows.{row-8, First, NoRow, Table}
 use Rattle.rules.proofs.Tests.{tests, clash, no-some, cases, and-false}
 use Rattle.rules.proofs.Named.{on-card-says, is-on-card}
 use Rattle.rules.proofs.Accepted.{range-says}
@@ -52,7 +54,8 @@ same o a b e f = let g : some a ≡ some b = sym e ∙ f in cc
 out-of-range : (period capacity : ℕ) → inRange period capacity ≡ false
     → OutOfRange 1 largestPeriod period ⊎ OutOfRange 1 period capacity
 out-of-range period capacity e =
-    ⊎-elim (λ f. ⊎-elim (λ g. ⊎-elim (λ h. inl (inl (leb-false 1 period h))) (λ h. inl (inr (leb-false period largestPeriod h))) (and-false (leb 1 period) (leb period largestPeriod) g))
+    ⊎-elim (λ f. ⊎-elim (λ g. ⊎-elim (λ h. inl (inl (leb-false 1 period h))) (λ h. inl (inr (leb-false period largestPeriod h)))
+    (and-false (leb 1 period) (leb period largestPeriod) g))
     (λ g. inr (inl (leb-false 1 capacity g))) (and-false (leb 1 period && leb period largestPeriod) (leb 1 capacity) f))
     (λ f. inr (inr (leb-false capacity period f)))
     (and-false (leb 1 period && leb period largestPeriod && leb 1 capacity) (leb capacity period) e)
@@ -82,11 +85,13 @@ module _ (c : Card) (call : Call) where
 
   skip : (number : ℕ) → Not number → Above number → Above (suc number)
   skip number f a n d h r =
-      ⊎-elim (λ e. a n d (omega (arith, tests)) r) (λ e. f d (subst (λ (k : ℕ). Row c call k d) (omega (arith, tests)) r)) (cases (ltb n number))
+      ⊎-elim (λ e. a n d (omega (arith, tests)) r) (λ e. f d (subst (λ (k : ℕ). Row c call k d) (omega (arith, tests)) r))
+      (cases (ltb n number))
 
   -- a row either applies, and is the first, or the rows below it are left
   step : (o : Option Refusal) (t : Bool) (number detail : ℕ) (below : Option Refusal) → row t number detail below ≡ o
-      → (t ≡ true → Row c call number detail) → (t ≡ false → Not number) → (below ≡ o → Above (suc number) → Says o) → Above number → Says o
+      → (t ≡ true → Row c call number detail) → (t ≡ false → Not number) → (below ≡ o → Above (suc number) → Says o) → Above number
+      → Says o
   step o true number detail below e f g next a = subst Says e (record { applies = f refl; none-above = a })
   step o false number detail below e f g next a = next e (skip number (g refl) a)
 
@@ -121,13 +126,15 @@ module _ (c : Card) (call : Call) where
   of-4 d (row-4 t e h) = (t, names (call .asked) t e, h)
 
   of-5 : (d : ℕ) → Row c call 5 d
-      → (t : Description) × (termsOf (call .asked) ≡ some t) × (OutOfRange 1 largestPeriod (t .period) ⊎ OutOfRange 1 (t .period) (t .capacity))
+      → (t : Description) × (termsOf (call .asked) ≡ some t) ×
+      (OutOfRange 1 largestPeriod (t .period) ⊎ OutOfRange 1 (t .period) (t .capacity))
   of-5 d (row-5 t e h) = (t, ap termsOf e, h)
 
   of-6 : (d : ℕ) → Row c call 6 d → (t : Description) × (termsOf (call .asked) ≡ some t) × OnTheCard (c .vcpus) (t .tunnel)
   of-6 d (row-6 t e h) = (t, ap termsOf e, h)
 
-  of-7 : (d : ℕ) → Row c call 7 d → (t : ℕ) × (tunnelOf (call .asked) ≡ some t) × (termsOf (call .asked) ≡ none) × (OnTheCard (c .vcpus) t → ⊥)
+  of-7 : (d : ℕ) → Row c call 7 d
+      → (t : ℕ) × (tunnelOf (call .asked) ≡ some t) × (termsOf (call .asked) ≡ none) × (OnTheCard (c .vcpus) t → ⊥)
   of-7 d (row-7 t e h) = let p = others-name (call .asked) t e in (t, p .0, p .1, h)
 
   of-8 : (d : ℕ) → Row c call 8 d → (t : Description) × (termsOf (call .asked) ≡ some t) × (mostVcpus ≤ length (c .vcpus))
@@ -157,10 +164,13 @@ module _ (c : Card) (call : Call) where
 
   admitting : (o : Option Refusal) (d : Description) → call .asked ≡ admit d → admitRows (c .vcpus) d ≡ o → Above 4 → Says o
   admitting o d e w a =
-      step o (above24Bits (d .tunnel)) 4 0 _ w (λ f. row-4 (d .tunnel) (inl (d, e, refl)) (omega (arith, tests))) (λ f n r. omega (arith, tests, high (d .tunnel) (inl (d, e, refl)) n r))
-      (λ w. step o _ 5 0 _ w (λ f. row-5 d e (out-of-range (d .period) (d .capacity) (not-true _ f))) (λ f n r. in-range (not-false _ f) n r)
+      step o (above24Bits (d .tunnel)) 4 0 _ w (λ f. row-4 (d .tunnel) (inl (d, e, refl)) (omega (arith, tests)))
+      (λ f n r. omega (arith, tests, high (d .tunnel) (inl (d, e, refl)) n r))
+      (λ w. step o _ 5 0 _ w (λ f. row-5 d e (out-of-range (d .period) (d .capacity) (not-true _ f)))
+      (λ f n r. in-range (not-false _ f) n r)
       (λ w. step o _ 6 0 _ w (λ f. row-6 d e (on-card-says (c .vcpus) (d .tunnel) f)) (λ f n r. clash (sym (there n r) ∙ f))
-      (λ w b. step o (leb mostVcpus (length (c .vcpus))) 8 0 _ w (λ f. row-8 d e (omega (arith, tests))) (λ f n r. omega (arith, tests, of-8 n r .2)) (λ w k. subst Says w (bottom k)) (skip 7 not-7 b)))) a
+      (λ w b. step o (leb mostVcpus (length (c .vcpus))) 8 0 _ w (λ f. row-8 d e (omega (arith, tests)))
+      (λ f n r. omega (arith, tests, of-8 n r .2)) (λ w k. subst Says w (bottom k)) (skip 7 not-7 b)))) a
     where
       is-d : (t : Description) → termsOf (call .asked) ≡ some t → t ≡ d
       is-d t f = same (termsOf (call .asked)) t d f (ap termsOf e)
@@ -169,7 +179,8 @@ module _ (c : Card) (call : Call) where
       in-range f n r =
           let p = of-5 n r in
           not-out (d .period) (d .capacity) f
-          (subst (λ (x : Description). OutOfRange 1 largestPeriod (x .period) ⊎ OutOfRange 1 (x .period) (x .capacity)) (is-d (p .0) (p .1)) (p .2))
+          (subst (λ (x : Description). OutOfRange 1 largestPeriod (x .period) ⊎ OutOfRange 1 (x .period) (x .capacity))
+          (is-d (p .0) (p .1)) (p .2))
 
       there : (n : ℕ) → Row c call 6 n → onCard (d .tunnel) (c .vcpus) ≡ true
       there n r =
@@ -182,7 +193,8 @@ module _ (c : Card) (call : Call) where
   naming : (o : Option Refusal) (t : ℕ) → WakeBlockRemoveOf (call .asked) t → namingRows (c .vcpus) t ≡ o → Above 4 → Says o
   naming o t i w a =
       step o (above24Bits t) 4 0 _ w (λ f. row-4 t (inr i) (omega (arith, tests))) (λ f n r. omega (arith, tests, high t (inr i) n r))
-      (λ w b. step o _ 7 0 _ w (λ f. row-7 t i (λ p. clash (sym (is-on-card (c .vcpus) t p) ∙ not-true _ f))) (λ f n r. not-there n r (on-card-says (c .vcpus) t (not-false _ f)))
+      (λ w b. step o _ 7 0 _ w (λ f. row-7 t i (λ p. clash (sym (is-on-card (c .vcpus) t p) ∙ not-true _ f)))
+      (λ f n r. not-there n r (on-card-says (c .vcpus) t (not-false _ f)))
       (λ w k. subst Says w (bottom (skip 8 (x .2) k))) (skip 6 (x .1) (skip 5 (x .0) b))) a
     where
       x : Not 5 × Not 6 × Not 8
@@ -191,14 +203,17 @@ module _ (c : Card) (call : Call) where
       not-there : (n : ℕ) → Row c call 7 n → OnTheCard (c .vcpus) t → ⊥
       not-there n r k =
           let p = of-7 n r in
-          p .3 (subst (λ (x : ℕ). OnTheCard (c .vcpus) x) (same (tunnelOf (call .asked)) t (p .0) (others-name (call .asked) t i .0) (p .1)) k)
+          p .3 (subst (λ (x : ℕ). OnTheCard (c .vcpus) x)
+          (same (tunnelOf (call .asked)) t (p .0) (others-name (call .asked) t i .0) (p .1)) k)
 
   asks : (o : Option Refusal) (a : Change) → call .asked ≡ a → callRows (c .vcpus) a ≡ o → Above 4 → Says o
   asks o (admit d) e = admitting o d e
   asks o (wake t) e = naming o t (inl e)
   asks o (block t) e = naming o t (inr (inl e))
   asks o (remove t) e = naming o t (inr (inr e))
-  asks o tick e = λ w a. subst Says w (bottom (skip 8 (x .2) (skip 7 (λ d r. nothing (of-7 d r .1)) (skip 6 (x .1) (skip 5 (x .0) (skip 4 (λ d r. nothing (of-4 d r .1)) a))))))
+  asks o tick e = λ w a. subst Says w
+      (bottom (skip 8 (x .2) (skip 7 (λ d r. nothing (of-7 d r .1))
+      (skip 6 (x .1) (skip 5 (x .0) (skip 4 (λ d r. nothing (of-4 d r .1)) a))))))
     where
       x : Not 5 × Not 6 × Not 8
       x = no-admit tick e refl
@@ -241,11 +256,13 @@ module _ (c : Card) (call : Call) where
   given : (n d : ℕ) → First c call n d → refusal c (call .now) (call .asked) ≡ some (record { number = n; detail = d })
   given n d f = go (refusal c (call .now) (call .asked)) refl
     where
-      go : (o : Option Refusal) → refusal c (call .now) (call .asked) ≡ o → refusal c (call .now) (call .asked) ≡ some (record { number = n; detail = d })
+      go : (o : Option Refusal) → refusal c (call .now) (call .asked) ≡ o
+          → refusal c (call .now) (call .asked) ≡ some (record { number = n; detail = d })
       go none e = absurd (says none e n d (f .applies))
       go (some r) e =
           let p = one-first (r .number) (r .detail) n d (says (some r) e) f in
-          e ∙ ap some (ap (λ (k : ℕ). record { number = k; detail = r .detail }) (p .0) ∙ ap (λ (k : ℕ). record { number = n; detail = k }) (p .1))
+          e ∙ ap some (ap (λ (k : ℕ). record { number = k; detail = r .detail }) (p .0)
+          ∙ ap (λ (k : ℕ). record { number = n; detail = k }) (p .1))
 
   pub not-given : NoRow c call → refusal c (call .now) (call .asked) ≡ none
   not-given h = go (refusal c (call .now) (call .asked)) refl
@@ -258,7 +275,11 @@ module _ (c : Card) (call : Call) where
   unfolding turn settled
   table =
       record {
-        refuses = λ n d. (reads (refusal c (call .now) (call .asked)) (says _ refl) n d, λ f. ap (λ (o : Option Refusal). answered c call o .reply) (given n d f));
+        refuses = λ n d. (
+          reads (refusal c (call .now) (call .asked)) (says _ refl) n d,
+          λ f. ap
+              (λ (o : Option Refusal). answered c call o .reply) (given n d f),
+        );
         hands-back = back (refusal c (call .now) (call .asked));
         accepts = (
           passes (refusal c (call .now) (call .asked)) (says _ refl),
@@ -268,7 +289,8 @@ module _ (c : Card) (call : Call) where
         at-now = λ h. ap (λ (o : Option Refusal). answered c call o .card .last) (not-given h);
       }
     where
-      reads : (o : Option Refusal) → Says o → (n d : ℕ) → answered c call o .reply ≡ refused (record { number = n; detail = d }) → First c call n d
+      reads : (o : Option Refusal) → Says o → (n d : ℕ) → answered c call o .reply ≡ refused (record { number = n; detail = d })
+          → First c call n d
       reads none s n d e = let z : _≡_ {A = ℕ} 0 1 = cc in absurd (omega arith)
       reads (some r) s n d e =
           let q : r ≡ record { number = n; detail = d } = cc in

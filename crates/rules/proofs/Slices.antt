@@ -80,7 +80,8 @@ going-gap T i (false ∷ m) e = omega (arith, going-not T m)
 going-gap T zero (true ∷ m) e = clash e
 going-gap T (suc i) (true ∷ m) e =
     let ih = going-gap T i m e in
-    ⊎-elim (λ f. omega (arith, ih, going-on T m (ltb-true (suc (going T m)) T f))) (λ f. omega (arith, going-cut T m (ltb-false (suc (going T m)) T f))) (cases (ltb (suc (going T m)) T))
+    ⊎-elim (λ f. omega (arith, ih, going-on T m (ltb-true (suc (going T m)) T f)))
+    (λ f. omega (arith, going-cut T m (ltb-false (suc (going T m)) T f))) (cases (ltb (suc (going T m)) T))
 
 -- where the slice is not cut among them, d held ticks more all belong to the slice that goes on; its return falls due at D
 pub record More (T d D : ℕ) (m : List Bool) : Type 0 where
@@ -90,7 +91,13 @@ pub record More (T d D : ℕ) (m : List Bool) : Type 0 where
   pub is-cut : 1 ≤ d → going T m + d ≡ T → going T (ticks d true m) ≡ 0
 
 pub more : (T d D : ℕ) (m : List Bool) → D + going T m ≡ length m + T → going T m + d ≤ T → More T d D m
-more T zero D m e h = record { counted = λ x k. omega arith; uncounted = λ x k. refl; goes-on = λ k. omega arith; is-cut = λ h k. absurd (omega arith) }
+more T zero D m e h = record {
+  counted = λ x k. omega arith;
+  uncounted = λ x k. refl;
+  goes-on = λ k. omega arith;
+  is-cut = λ h k. absurd
+      (omega arith);
+}
 more T (suc d) D m e h = step (more T d D m e (omega arith))
   where
     step : More T d D m → More T (suc d) D m

@@ -41,7 +41,8 @@ not-before a b e = go (or-false _ _ e)
 pub urgent : (a b : Description) → MoreUrgent a b → moreUrgent a b ≡ true
 unfolding moreUrgent
 urgent a b (inl h) = rw (lt-ltb (a .priority) (b .priority) h)
-urgent a b (inr p) = rw (eq-eqb (a .priority) (b .priority) (p .0), lt-ltb (a .tunnel) (b .tunnel) (p .1)) (or-right (ltb (a .priority) (b .priority)))
+urgent a b (inr p) = rw (eq-eqb (a .priority) (b .priority) (p .0), lt-ltb (a .tunnel) (b .tunnel) (p .1))
+    (or-right (ltb (a .priority) (b .priority)))
 
 pub not-urgent : (a b : Description) → NotBefore a b → moreUrgent a b ≡ false
 unfolding moreUrgent

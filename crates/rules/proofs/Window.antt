@@ -53,4 +53,9 @@ pub within-held : (T C d : ℕ) (m : List Bool) → 1 ≤ T → Within T C m
 within-held T C zero m h w b = w
 within-held T C (suc d) m h w b =
     one-more T C (ticks d true m) h (within-held T C d m h w (λ x k. omega (arith, b x k)))
-    (omega (arith, begun-most T (suc (length (ticks d true m))) (suc d) m, b (suc (length (ticks d true m))) (omega (arith, length-ticks d true m))))
+    (omega (
+      arith,
+      begun-most T (suc (length (ticks d true m))) (suc d) m,
+      b (suc (length (ticks d true m)))
+          (omega (arith, length-ticks d true m)),
+    ))
