@@ -1,25 +1,31 @@
 -- What a run means follows from what `run` promises. Assumes nothing.
-use Prim.Native.Nat.{ℕ, _+_, _≤_}
+use Prim.Native.Nat.{ℕ, zero, suc, _+_, _^_, _≤_}
 use mathlib.Core.Path.{_≡_, refl, ap, sym, _∙_, subst}
 use mathlib.Core.Bool.{Bool, true, false, cond}
 use mathlib.Core.List.{List, [], _∷_, _++_, append-nil}
-use mathlib.Core.Logic.{_⊎_, inl, inr}
+use mathlib.Core.Logic.{_⊎_, inl, inr, ⊎-elim}
 use mathlib.Core.Option.{none}
 use native.Mathlib.Omega.{arith}
 use lib.Dec.{leb, eqb}
 use lib.IntN.{ℤ, pos, negsuc}
 use lib.ListN.{length, take, length-take}
+use borrow.Author.Tests.{leb-true}
 use Rattle.io.specs.Counts.{clamped}
 use Rattle.libc.specs.Io.{Moved}
 use Rattle.rules.proofs.Tests.{clash}
 use Rattle.turns.specs.State.{made}
-use Rattle.lines.specs.Serve.{Run, serveOf}
+use Rattle.records.specs.Bytes.{AreBytes}
+use Rattle.lines.specs.Serve.{Run, serveOf, cardLines}
+use Rattle.lines.specs.Asked.{asked}
 use Rattle.lines.proofs.Rest.{all-used}
+use Rattle.lines.proofs.Parts.{any-cut}
+use Rattle.lines.proofs.Answered.{all-answered}
+use Rattle.lines.proofs.Answers.{answers}
 use Rattle.card.specs.declared.Standing.{Standing}
 use Rattle.card.specs.declared.Standing.the-variants.{GoesOn, EndOfInput, Refused, ReadFailed, WriteFailed, ByteLimit}
 use Rattle.card.specs.declared.Round.{Round}
 use Rattle.card.specs.Program.{mostBytes, standing, Read, brought, came, afterRead, afterReads, EachGoesOn, Ran}
-use Rattle.card.specs.Meaning.{isZero, atEnd, whole, Meaning}
+use Rattle.card.specs.Meaning.{isZero, atEnd, isBelow, hasFailed, whole, Meaning}
 use Rattle.card.proofs.Runs.{number, goes-when, SoFar, so-far}
 
 refused-stops : (stopped last : Bool) (offset : ℕ) → standing true stopped last offset ≡ Refused → stopped ≡ true
@@ -40,6 +46,24 @@ end-last false false offset h = go (leb mostBytes offset) h
     go true h = absurd (omega (arith, ap number h))
     go false h = absurd (omega (arith, ap number h))
 
+limit-when : (stopped last : Bool) (offset : ℕ) → standing true stopped last offset ≡ ByteLimit → mostBytes ≤ offset
+limit-when true last offset h = absurd (omega (arith, ap number h))
+limit-when false true offset h = absurd (omega (arith, ap number h))
+limit-when false false offset h = go (leb mostBytes offset) refl h
+  where
+    go : (t : Bool) → leb mostBytes offset ≡ t → cond t ByteLimit GoesOn ≡ ByteLimit → mostBytes ≤ offset
+    go true t h = leb-true mostBytes offset t
+    go false t h = absurd (omega (arith, ap number h))
+
+no-read-failed : (stopped last : Bool) (offset : ℕ) → standing true stopped last offset ≡ ReadFailed → ⊥
+no-read-failed true last offset h = absurd (omega (arith, ap number h))
+no-read-failed false true offset h = absurd (omega (arith, ap number h))
+no-read-failed false false offset h = go (leb mostBytes offset) h
+  where
+    go : (t : Bool) → cond t ByteLimit GoesOn ≡ ReadFailed → ⊥
+    go true h = absurd (omega (arith, ap number h))
+    go false h = absurd (omega (arith, ap number h))
+
 -- at the end of the input all bytes are used, or it was refused
 end-used : (s : List ℕ) (last : Bool) → last ≡ true → serveOf (made []) s last none .stopped ≡ false
     → serveOf (made []) s last none .used ≡ length s
@@ -52,29 +76,37 @@ end-used s true e n = each (all-used (made []) s)
     each (inr h) = h
 
 -- what a round that no failed write ended means, of all bytes s
-record Means (s : List ℕ) (last : Bool) (r : Round) : Type 0 where
+record Means (s : List ℕ) (last failed : Bool) (r : Round) : Type 0 where
   core-is : r .core ≡ serveOf (made []) s last none .core
   used-is : r .offset ≡ serveOf (made []) s last none .used
   refused : r .standing ≡ Refused → serveOf (made []) s last none .stopped ≡ true
   stops : serveOf (made []) s last none .stopped ≡ true → r .standing ≡ Refused
   at-end : r .standing ≡ EndOfInput → (last ≡ true) × (serveOf (made []) s last none .stopped ≡ false) × (r .offset ≡ length s)
+  ends : last ≡ true → serveOf (made []) s last none .stopped ≡ false → r .standing ≡ EndOfInput
+  fails : (r .standing ≡ ReadFailed → failed ≡ true) × (failed ≡ true → r .standing ≡ ReadFailed)
+  limit : r .standing ≡ ByteLimit → mostBytes ≤ r .offset
 
-so-far-means : (s : List ℕ) (r : Round) (how : Standing) → SoFar s r → (how ≡ Refused → ⊥) → (how ≡ EndOfInput → ⊥)
-    → Means s false (record { core = r .core; offset = r .offset; held = r .held; standing = how })
-so-far-means s r how f not-refused not-ended =
+so-far-means : (s : List ℕ) (r : Round) (how : Standing) (failed : Bool) → SoFar s r → (how ≡ Refused → ⊥) → (how ≡ EndOfInput → ⊥)
+    → (how ≡ ByteLimit → ⊥) → (how ≡ ReadFailed → failed ≡ true) × (failed ≡ true → how ≡ ReadFailed)
+    → Means s false failed (record { core = r .core; offset = r .offset; held = r .held; standing = how })
+so-far-means s r how failed f not-refused not-ended no-limit fails =
     record {
       core-is = sym (f .core-is);
       used-is = sym (f .used-is);
       refused = λ h. absurd (not-refused h);
       stops = λ h. clash (sym h ∙ f .goes);
       at-end = λ h. absurd (not-ended h);
+      ends = λ h n. clash (sym h);
+      fails = fails;
+      limit = λ h. absurd (no-limit h);
     }
 
 read-means : (got : ℤ) (part s : List ℕ) (before : Round) → SoFar s before
-    → Means (s ++ take (clamped got (length part)) part) (isZero got) (afterRead got (s ++ take (clamped got (length part)) part) before)
+    → Means (s ++ take (clamped got (length part)) part) (isZero got) (isBelow got)
+    (afterRead got (s ++ take (clamped got (length part)) part) before)
 read-means (negsuc k) part s before f =
-    so-far-means (s ++ []) before ReadFailed (subst (λ (l : List ℕ). SoFar l before) (sym (append-nil s)) f)
-    (λ h. omega (arith, ap number h)) (λ h. omega (arith, ap number h))
+    so-far-means (s ++ []) before ReadFailed true (subst (λ (l : List ℕ). SoFar l before) (sym (append-nil s)) f)
+    (λ h. omega (arith, ap number h)) (λ h. omega (arith, ap number h)) (λ h. omega (arith, ap number h)) (λ h. refl, λ h. refl)
 read-means (pos k) part s before f =
     let all : List ℕ = s ++ take (clamped (pos k) (length part)) part in
     let run : Run = serveOf (made []) all (eqb k 0) none in
@@ -86,35 +118,42 @@ read-means (pos k) part s before f =
       at-end = λ h.
           let e = end-last (run .stopped) (eqb k 0) (0 + run .used) h in
           (e .0, e .1, omega (arith, end-used all (eqb k 0) (e .0) (e .1)));
+      ends = λ h n.
+          ap (λ (t : Bool). standing true t (eqb k 0) (0 + run .used)) n ∙ ap (λ (t : Bool). standing true false t (0 + run .used)) h;
+      fails = (λ h. absurd (no-read-failed (run .stopped) (eqb k 0) (0 + run .used) h), λ h. clash (sym h));
+      limit = λ h. limit-when (run .stopped) (eqb k 0) (0 + run .used) h;
     }
 
-after-means : (reads : List Read) → EachGoesOn reads → Means (came reads) (atEnd reads) (afterReads reads)
+after-means : (reads : List Read) → EachGoesOn reads → Means (came reads) (atEnd reads) (hasFailed reads) (afterReads reads)
 after-means [] e =
-    so-far-means [] (afterReads []) GoesOn (so-far [] refl) (λ h. omega (arith, ap number h)) (λ h. omega (arith, ap number h))
+    so-far-means [] (afterReads []) GoesOn false (so-far [] refl) (λ h. omega (arith, ap number h)) (λ h. omega (arith, ap number h))
+    (λ h. omega (arith, ap number h)) (λ h. absurd (omega (arith, ap number h)), λ h. clash (sym h))
 after-means (x ∷ before) e = read-means (x .got) (x .part) (came before) (afterReads before) (so-far before (e .0))
 
 -- where the program goes on, the input has not ended and was not refused
-goes-more : (got : ℤ) (s : List ℕ) (before : Round) → afterRead got s before .standing ≡ GoesOn → isZero got ≡ false
+goes-more : (got : ℤ) (s : List ℕ) (before : Round) → afterRead got s before .standing ≡ GoesOn
+    → (isZero got ≡ false) × (isBelow got ≡ false)
 goes-more (pos k) s before h =
     let run : Run = serveOf (made []) s (eqb k 0) none in
-    goes-when (run .stopped) (eqb k 0) (0 + run .used) h .1
+    (goes-when (run .stopped) (eqb k 0) (0 + run .used) h .1, refl)
 goes-more (negsuc k) s before h = absurd (omega (arith, ap number h))
 
-goes-means : (reads : List Read) → afterReads reads .standing ≡ GoesOn → (whole reads .stopped ≡ false) × (atEnd reads ≡ false)
+goes-means : (reads : List Read) → afterReads reads .standing ≡ GoesOn
+    → (whole reads .stopped ≡ false) × (atEnd reads ≡ false) × (hasFailed reads ≡ false)
 goes-means reads h =
-    let e : atEnd reads ≡ false = end reads h in
-    (ap (λ (t : Bool). serveOf (made []) (came reads) t none .stopped) e ∙ so-far reads h .goes, e)
+    let e = more reads h in
+    (ap (λ (t : Bool). serveOf (made []) (came reads) t none .stopped) (e .0) ∙ so-far reads h .goes, e .0, e .1)
   where
-    end : (reads : List Read) → afterReads reads .standing ≡ GoesOn → atEnd reads ≡ false
-    end [] h = refl
-    end (x ∷ before) h = goes-more (x .got) (came (x ∷ before)) (afterReads before) h
+    more : (reads : List Read) → afterReads reads .standing ≡ GoesOn → (atEnd reads ≡ false) × (hasFailed reads ≡ false)
+    more [] h = (refl, refl)
+    more (x ∷ before) h = goes-more (x .got) (came (x ∷ before)) (afterReads before) h
 
 earlier : (later : List Read) (x : Read) (before : List Read) → EachGoesOn (later ++ (x ∷ before)) → afterReads before .standing ≡ GoesOn
 earlier [] x before e = e .0
 earlier (y ∷ later) x before e = earlier later x before (e .1)
 
 no-more : (reads : List Read) → EachGoesOn reads → (later : List Read) (x : Read) (before : List Read) → reads ≡ later ++ (x ∷ before)
-    → (whole before .stopped ≡ false) × (atEnd before ≡ false)
+    → (whole before .stopped ≡ false) × (atEnd before ≡ false) × (hasFailed before ≡ false)
 no-more reads e later x before h = goes-means before (earlier later x before (subst EachGoesOn h e))
 
 brings : (x : Read) (k : ℕ) → x .got ≡ pos k → length (brought x) ≡ k
@@ -123,25 +162,73 @@ brings x k e =
     ap (λ (z : ℤ). length (take (clamped z (length (x .part))) (x .part))) e
     ∙ omega (arith, length-take (clamped (pos k) (length (x .part))) (x .part))
 
+front-bytes : (n : ℕ) (s : List ℕ) → AreBytes s → AreBytes (take n s)
+front-bytes zero s h = tt
+front-bytes (suc n) [] h = tt
+front-bytes (suc n) (b ∷ s) h = (h .0, front-bytes n s (h .1))
+
+both-bytes : (s t : List ℕ) → AreBytes s → AreBytes t → AreBytes (s ++ t)
+both-bytes [] t h k = k
+both-bytes (b ∷ s) t h k = (h .0, both-bytes s t (h .1) k)
+
+came-bytes : (reads : List Read) → AreBytes (came reads)
+came-bytes [] = tt
+came-bytes (x ∷ before) =
+    both-bytes (came before) (brought x) (came-bytes before) (front-bytes (clamped (x .got) (length (x .part))) (x .part) (x .are-bytes))
+
+-- where the input has ended or is refused, nothing that may come behind it changes a line
+whole-lines : (s : List ℕ) (last : Bool) → (last ≡ true) ⊎ (serveOf (made []) s last none .stopped ≡ true)
+    → serveOf (made []) s last none .lines ≡ cardLines s
+whole-lines s true why = refl
+whole-lines s false (inl e) = clash (sym e)
+whole-lines s false (inr h) =
+    let cut : serveOf (made []) (s ++ []) true none ≡ serveOf (made []) s false none = any-cut (made []) s [] true none ∙ rw h in
+    ap (λ (x : Run). x .lines) (sym cut) ∙ ap cardLines (append-nil s)
+
+-- the standing tells a failed write from every other end
+not-write : (r : Round) (how : Standing) → r .standing ≡ WriteFailed → (number how ≡ 4 → ⊥) → r .standing ≡ how → ⊥
+not-write r how w n h = n (ap number (sym h ∙ w))
+
 pub meaning : (r : Round) (n : Ran r) → Meaning r (n .reads)
 meaning r n = go (n .served)
   where
-    go : (r .standing ≡ WriteFailed) ⊎ (r ≡ afterReads (n .reads)) → Meaning r (n .reads)
+    reads : List Read
+    reads = n .reads
+
+    go : (r .standing ≡ WriteFailed) ⊎ (r ≡ afterReads reads) → Meaning r reads
     go (inl w) =
         record {
           all-brought = brings;
           every-byte = λ h. absurd (h w);
           refused = λ h. absurd (h w);
-          end-of-input = λ h. absurd (omega (arith, ap number (sym w ∙ h)));
-          no-more-reads = no-more (n .reads) (n .each-goes-on);
+          end-of-input = λ h. absurd (not-write r EndOfInput w (λ z. omega arith) h);
+          at-the-end = λ h. absurd (h w);
+          read-failed = λ h. absurd (h w);
+          byte-limit = λ h. absurd (not-write r ByteLimit w (λ z. omega arith) h);
+          a-reason = n .ends;
+          no-more-reads = no-more reads (n .each-goes-on);
+          calls-made = λ h. absurd (h w);
+          lines-served = λ why.
+              absurd
+              (⊎-elim (λ h. not-write r EndOfInput w (λ z. omega arith) h) (λ h. not-write r Refused w (λ z. omega arith) h) why);
+          are-bytes = came-bytes reads;
+          answers = answers (came reads);
         }
     go (inr e) =
-        let m : Means (came (n .reads)) (atEnd (n .reads)) r =
-        subst (Means (came (n .reads)) (atEnd (n .reads))) (sym e) (after-means (n .reads) (n .each-goes-on)) in
+        let m : Means (came reads) (atEnd reads) (hasFailed reads) r =
+        subst (Means (came reads) (atEnd reads) (hasFailed reads)) (sym e) (after-means reads (n .each-goes-on)) in
         record {
           all-brought = brings;
           every-byte = λ h. (m .core-is, m .used-is);
           refused = λ h. (m .refused, m .stops);
           end-of-input = m .at-end;
-          no-more-reads = no-more (n .reads) (n .each-goes-on);
+          at-the-end = λ h. m .ends;
+          read-failed = λ h. m .fails;
+          byte-limit = λ h. omega (arith, m .limit h);
+          a-reason = n .ends;
+          no-more-reads = no-more reads (n .each-goes-on);
+          calls-made = λ h. m .core-is ∙ all-answered [] (came reads) (atEnd reads) .core-is;
+          lines-served = λ why. whole-lines (came reads) (atEnd reads) (⊎-elim (λ h. inl (m .at-end h .0)) (λ h. inr (m .refused h)) why);
+          are-bytes = came-bytes reads;
+          answers = answers (came reads);
         }

@@ -1,22 +1,28 @@
 -- A round: what the read's answer says of the bytes that are served, and what waits after it. Assumes nothing.
-use Prim.Native.Nat.{ℕ, _+_, _-_, _≤_, _<_, min}
+use Prim.Native.Nat.{ℕ, suc, _+_, _-_, _≤_, _<_, min}
 use mathlib.Core.Path.{_≡_, refl, ap, sym, _∙_}
 use mathlib.Core.Bool.{Bool, true, false}
-use mathlib.Core.List.{List, _++_}
+use mathlib.Core.List.{List, [], _∷_, _++_}
 use mathlib.Core.Logic.{_⊎_, inl, inr}
 use native.Mathlib.Omega.{arith}
 use lib.Dec.{eqb}
 use lib.IntN.{ℤ, pos, negsuc}
 use lib.Signed.{ltZ}
-use lib.ListN.{length, take, drop, length-take, length-drop}
+use lib.ListN.{length, getD, take, drop, length-take, length-drop}
 use lib.Seq.{slice, length-slice, take-at, length-take-le}
 use borrow.Author.Tests.{ltb-true, eqb-true, eqb-false, eq-eqb, ne-eqb}
 use Rattle.io.specs.Counts.{clamped}
 use Rattle.rules.proofs.Tests.{clash}
 use Rattle.turns.specs.declared.Core.{Core}
+use Rattle.records.specs.Bytes.{AreBytes}
 use Rattle.card.specs.declared.Standing.the-variants.{ReadFailed, WriteFailed}
 use Rattle.card.specs.declared.Round.{Round}
 use Rattle.card.specs.Program.{servedPart, toServe, roundOf, lastBytes}
+
+-- the same of each place and along the list
+pub all-bytes : (s : List ℕ) → ((i : ℕ) → getD s i 0 < 256) → AreBytes s
+all-bytes [] h = tt
+all-bytes (b ∷ s) h = (h 0, all-bytes s (λ i. h (suc i)))
 
 -- the last h of the bytes before `end`, moved to the front
 pub kept : (input after : List ℕ) (end h : ℕ) → end ≤ length input → h ≤ end

@@ -16,6 +16,7 @@ use Rattle.io.specs.Counts.{clamped}
 use Rattle.libc.specs.Io.{Moved}
 use Rattle.turns.specs.declared.Core.{Core}
 use Rattle.turns.specs.State.{made}
+use Rattle.records.specs.Bytes.{AreBytes}
 use Rattle.lines.specs.Serve.{Run, serveOf}
 use Rattle.lines.proofs.Served.{serve-end}
 use Rattle.lines.proofs.Rest.{left-few, rest-left, used-within, further, cut-goes-on}
@@ -186,6 +187,7 @@ under-so-far r input u =
 
 -- a read left `input`, and the round after it `after`
 module _ (r next : Round) (before input after : List ℕ) (got : ℤ) (u : Under r before) (low : r .held < length input)
+    (are-bytes : AreBytes (drop (r .held) input))
     (few : Moved (length (drop (r .held) input)) got) (front : take (r .held) input ≡ take (r .held) before)
     (told : (next .standing ≡ WriteFailed) ⊎ (next ≡ roundOf (r .core) (r .offset) input (r .held) got))
     (rest : take (next .held) after ≡ lastBytes (next .held) (toServe input (r .held) got)) where
@@ -193,7 +195,15 @@ module _ (r next : Round) (before input after : List ℕ) (got : ℤ) (u : Under
   s = came (u .reads)
 
   abbrev all : List Read
-  all = record { part = drop (r .held) input; got = got; some-room = omega (arith, length-drop (r .held) input); in-room = few } ∷ u .reads
+  all =
+      record {
+        part = drop (r .held) input;
+        are-bytes = are-bytes;
+        got = got;
+        some-room = omega (arith, length-drop (r .held) input);
+        in-room = few;
+      }
+      ∷ u .reads
 
   f : SoFar s r
   f = under-so-far r before u

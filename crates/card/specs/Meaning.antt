@@ -1,15 +1,19 @@
 -- What a run of the program means, in plain facts: of what it ends with and of its reads, the latest first. Assumes nothing.
-use Prim.Native.Nat.{ℕ}
+use Prim.Native.Nat.{ℕ, _^_, _≤_}
 use mathlib.Core.Path.{_≡_}
 use mathlib.Core.Bool.{Bool, true, false}
 use mathlib.Core.List.{List, [], _∷_, _++_}
+use mathlib.Core.Logic.{_⊎_}
 use mathlib.Core.Option.{none}
 use lib.Dec.{eqb}
 use lib.IntN.{ℤ, pos, negsuc}
 use lib.ListN.{length}
 use Rattle.turns.specs.State.{made}
-use Rattle.lines.specs.Serve.{Run, serveOf}
-use Rattle.card.specs.declared.Standing.the-variants.{EndOfInput, Refused, WriteFailed}
+use Rattle.records.specs.Bytes.{AreBytes}
+use Rattle.lines.specs.Serve.{Run, serveOf, cardLines}
+use Rattle.lines.specs.Asked.{asked}
+use Rattle.lines.specs.Answers.{Answers}
+use Rattle.card.specs.declared.Standing.the-variants.{GoesOn, EndOfInput, Refused, ReadFailed, WriteFailed, ByteLimit}
 use Rattle.card.specs.declared.Round.{Round}
 use Rattle.card.specs.Program.{Read, brought, came}
 
@@ -21,6 +25,15 @@ isZero (negsuc k) = false
 abbrev pub atEnd : List Read → Bool
 atEnd [] = false
 atEnd (x ∷ before) = isZero (x .got)
+
+-- whether the latest read answered below 0
+abbrev pub isBelow : ℤ → Bool
+isBelow (pos k) = false
+isBelow (negsuc k) = true
+
+abbrev pub hasFailed : List Read → Bool
+hasFailed [] = false
+hasFailed (x ∷ before) = isBelow (x .got)
 
 -- all bytes that came, served in one piece from the core before any call
 abbrev pub whole : List Read → Run
@@ -34,8 +47,21 @@ pub record Meaning (r : Round) (reads : List Read) : Type 0 where
   -- "After 20, 21 or 22 the program stops": exactly when serving all that came stops
   pub refused : (r .standing ≡ WriteFailed → ⊥)
       → (r .standing ≡ Refused → whole reads .stopped ≡ true) × (whole reads .stopped ≡ true → r .standing ≡ Refused)
-  -- the end of input is that of a read that answered 0, and all bytes that came are used
+  -- the end of input: exactly when a read answered 0 and nothing was refused; all bytes that came are used then
   pub end-of-input : r .standing ≡ EndOfInput → (atEnd reads ≡ true) × (whole reads .stopped ≡ false) × (r .offset ≡ length (came reads))
-  -- no read comes after a refusal, and none after the end of input
+  pub at-the-end : (r .standing ≡ WriteFailed → ⊥) → atEnd reads ≡ true → whole reads .stopped ≡ false → r .standing ≡ EndOfInput
+  -- a failed read: exactly when the latest read answered below 0
+  pub read-failed : (r .standing ≡ WriteFailed → ⊥)
+      → (r .standing ≡ ReadFailed → hasFailed reads ≡ true) × (hasFailed reads ≡ true → r .standing ≡ ReadFailed)
+  -- the byte limit is beyond what any run uses, and there is no other reason to end
+  pub byte-limit : r .standing ≡ ByteLimit → 2 ^ 63 ≤ r .offset
+  pub a-reason : r .standing ≡ GoesOn → ⊥
+  -- no read comes after a refusal, after the end of input, or after a read that failed
   pub no-more-reads : (later : List Read) (x : Read) (before : List Read) → reads ≡ later ++ (x ∷ before)
-      → (whole before .stopped ≡ false) × (atEnd before ≡ false)
+      → (whole before .stopped ≡ false) × (atEnd before ≡ false) × (hasFailed before ≡ false)
+  -- from bytes to demand 3: the calls of the records that came make the core, where the input ended or was refused the lines served are
+  -- those of the whole input, and what is promised of an input and its calls holds of the bytes that came
+  pub calls-made : (r .standing ≡ WriteFailed → ⊥) → r .core ≡ made (asked (came reads) .calls)
+  pub lines-served : (r .standing ≡ EndOfInput) ⊎ (r .standing ≡ Refused) → whole reads .lines ≡ cardLines (came reads)
+  pub are-bytes : AreBytes (came reads)
+  pub answers : Answers (came reads)

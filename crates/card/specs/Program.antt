@@ -13,6 +13,7 @@ use Rattle.io.specs.Counts.{clamped}
 use Rattle.libc.specs.Io.{Moved}
 use Rattle.turns.specs.declared.Core.{Core}
 use Rattle.turns.specs.State.{made}
+use Rattle.records.specs.Bytes.{AreBytes}
 use Rattle.lines.specs.Serve.{Run, serveOf}
 use Rattle.card.specs.declared.Standing.{Standing}
 use Rattle.card.specs.declared.Standing.the-variants.{GoesOn, EndOfInput, Refused, ReadFailed, WriteFailed, ByteLimit}
@@ -53,6 +54,7 @@ lastBytes n s = drop (length s - n) s
 -- a read: the part that it was lent, as it left it, and its answer, which the C library promises not to be above the part's length
 pub record Read : Type 0 where
   pub part : List ℕ
+  pub are-bytes : AreBytes part
   pub got : ℤ
   pub some-room : 1 ≤ length part
   pub in-room : Moved (length part) got

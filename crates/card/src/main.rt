@@ -12,6 +12,7 @@ ghost use mathlib.Core.Logic.{_⊎_};
 ghost use lib.ListN.{length, take, drop};
 ghost use lib.Seq.{slice};
 ghost use Rattle.turns.specs.State.{ValidCore};
+ghost use Rattle.records.specs.Bytes.{AreBytes};
 ghost use Rattle.lines.specs.Text.{longest};
 ghost use Rattle.card.specs.declared.Standing.the-variants.{WriteFailed};
 ghost use Rattle.card.specs.Program.{standing, servedPart, toServe, roundOf, lastBytes, Ran};
@@ -123,7 +124,7 @@ fn one_round(
     out: &mut [u8],
 ) -> Round
     requires { ⌜ ValidCore core × (held < length (now input)) × (longest ≤ length (now out)) × (offset + length (now input) < 2 ^ 64) ⌝ }
-    ensures { λ r. ⌜ ValidCore (r .core) × (take (r .held) (now (input .exit)) ≡ lastBytes (r .held) (toServe (now (input .entry)) held got)) ⌝ }
+    ensures { λ r. ⌜ ValidCore (r .core) × (take (r .held) (now (input .exit)) ≡ lastBytes (r .held) (toServe (now (input .entry)) held got)) × AreBytes (now (input .entry)) ⌝ }
     ensures { λ r. ⌜ (r .standing ≡ WriteFailed) ⊎ (r ≡ roundOf core offset (now (input .entry)) held got) ⌝ }
 {
     if got < 0 {

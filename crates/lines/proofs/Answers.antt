@@ -17,7 +17,7 @@ use Rattle.lines.specs.Asked.{asked, replies, linesOf, lastLine}
 use Rattle.lines.specs.Answers.{newlines, Answers}
 use Rattle.lines.proofs.Rest.{nothing-written}
 use Rattle.lines.proofs.Asked.{stops-at}
-use Rattle.lines.proofs.Sent.{asked-bytes}
+use Rattle.lines.proofs.Sent.{asked-bytes, sent-asked}
 use Rattle.lines.proofs.Newline.{a-line-each}
 use Rattle.lines.proofs.Parts.{parts-same}
 use Rattle.lines.proofs.Answered.{answeredNow, AllAnswered, all-answered}
@@ -41,6 +41,7 @@ pub answers : (input : List ℕ) → Answers input
 answers input =
     record {
       input-is = asked-bytes [] input;
+      calls-are = λ calls rest o h e s. ap asked s ∙ sent-asked calls rest o h e;
       core-is = all .core-is;
       lines-are = lines;
       a-line-each = ap newlines lines ∙ a-line-each (asked input);

@@ -44,7 +44,7 @@ same-values (Block m t) = refl
 same-values (Remove m t) = refl
 same-values (Tick m) = refl
 
-bytes-behind : (n : ℕ) (s : List ℕ) → AreBytes s → AreBytes (drop n s)
+pub bytes-behind : (n : ℕ) (s : List ℕ) → AreBytes s → AreBytes (drop n s)
 bytes-behind zero s h = h
 bytes-behind (suc n) [] h = tt
 bytes-behind (suc n) (b ∷ s) h = bytes-behind n s (h .1)

@@ -5,14 +5,15 @@ use Prim.Native.Nat.{ℕ}
 use mathlib.Core.Path.{_≡_}
 use mathlib.Core.Bool.{true}
 use mathlib.Core.List.{List, [], _∷_, _++_, map}
-use mathlib.Core.Option.{none, some}
+use mathlib.Core.Option.{Option, none, some}
 use lib.Dec.{eqb}
-use Rattle.rules.specs.Lists.{count, Among}
+use Rattle.rules.specs.Lists.{count, All, Among}
 use Rattle.turns.specs.declared.Refusal.{Refusal}
 use Rattle.turns.specs.Calls.{paperReply}
-use Rattle.turns.specs.State.{made}
+use Rattle.turns.specs.State.{Asking, made, callsOf}
 use Rattle.turns.specs.Promised.{exchanges, Promised}
 use Rattle.records.specs.Bytes.{AreBytes}
+use Rattle.records.specs.Encode.{InRange}
 use Rattle.lines.specs.Serve.{serveOf, cardLines}
 use Rattle.lines.specs.Parts.{Part, onePiece, inParts}
 use Rattle.lines.specs.Asked.{asked, sent, Ended, records, replies, linesOf, lastLine}
@@ -20,7 +21,7 @@ use Rattle.lines.specs.Asked.{asked, sent, Ended, records, replies, line
 abbrev pub newlines : List ℕ → ℕ
 newlines text = count (eqb 10) text
 
--- "After 20, 21 or 22 the program stops."
+-- reading ends only at these; their detail is 0
 abbrev pub stopsAt : List Refusal
 stopsAt =
     record { number = 20; detail = 0 } ∷ record { number = 21; detail = 0 } ∷ record { number = 22; detail = 0 } ∷ []
@@ -29,6 +30,9 @@ stopsAt =
 pub record Answers (input : List ℕ) : Type 0 where
   -- where they are bytes, they are the records of the calls, in their order, and then what reading ended at
   pub input-is : AreBytes input → (rest : List ℕ) × (input ≡ sent (asked input .calls) ++ rest) × Ended rest (asked input .refusal)
+  -- and the other way: whatever calls a host sends as records, with whatever behind them, these are the calls that are asked for
+  pub calls-are : (calls : List Asking) (rest : List ℕ) (o : Option Refusal) → All InRange (callsOf calls) → Ended rest o
+      → input ≡ sent calls ++ rest → asked input ≡ record { calls = calls; refusal = o }
   -- the calls of the records make the core
   pub core-is : serveOf (made []) input true none .core ≡ made (asked input .calls)
   -- all that is written: the lines of the replies, in the order of the records, then the line of the refusal

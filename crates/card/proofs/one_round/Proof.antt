@@ -9,7 +9,8 @@ use mir.Syntax.{w64}
 use mir.Val.{toZ, ofZ}
 use mir.ValLaws.{toZ-ofZ}
 use borrow.Author.Needs.{needs}
-use Rattle.card.proofs.Rounds.{round-failed, count-is, round-kept, round-served}
+use Rattle.records.specs.Bytes.{AreBytes}
+use Rattle.card.proofs.Rounds.{all-bytes, round-failed, count-is, round-kept, round-served}
 use Rattle.card.proofs.one_round.Statement.{statement}
 use Rattle.card.proofs.one_round.Tie as tie
 
@@ -30,6 +31,10 @@ done m = m .before .before .before .before .before
 bits : (c : tie.After-slice-known2) → toZ w64 (ofZ w64 (start c .args .got)) ≡ start c .args .got
 bits c = toZ-ofZ w64 (start c .args .got) (start c .fits .got)
 
+-- what a slice of bytes holds
+are-bytes : (c : tie.After-slice-known2) → AreBytes (start c .args .input .now)
+are-bytes c = all-bytes (start c .args .input .now) (λ i. c .before .slice-known .given i .fits)
+
 slice-aggregate-write-all : tie.Need-slice-aggregate-write-all
 slice-aggregate-write-all c = search needs
 
@@ -44,7 +49,7 @@ returns c =
     let f =
     round-failed (a .core) (a .offset) (a .input .now) (a .held) (a .got) (omega (arith, start b .pre .1))
     (subst (λ (z : ℤ). ltZ z (pos 0) ≡ true) (bits b) (t .if1 .taken)) in
-    ((start b .pre .0, f .0), inr (f .1))
+    ((start b .pre .0, f .0, are-bytes b), inr (f .1))
 
 sub-count : tie.Need-sub-count
 sub-count c = search needs
@@ -90,6 +95,7 @@ returns-2 c =
         d .answered .ensures .0 .0,
         round-kept (a .core) (a .offset) (a .input .now) (a .held) (a .got) (k .count .result) (m .move-rest .last .0)
             (d .answered .result .held) low n (d .answered .ensures .0 .1) (m .move-rest .ensures),
+        are-bytes b,
       ),
       round-served (a .core) (a .offset) (a .input .now) (a .held) (a .got) (k .count .result) (d .answered .result)
           low n (subst (λ (z : ℤ). ltZ z (pos 0) ≡ false) (bits b) (told k .if1 .left)) (d .answered .ensures .1),

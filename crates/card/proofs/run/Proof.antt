@@ -15,6 +15,7 @@ use mir.ValLaws.{toZ-ofZ}
 use types.Run.{OneOf, miss}
 use Rattle.libc.specs.Io.{Moved}
 use Rattle.turns.specs.State.{ValidCore}
+use Rattle.lines.proofs.Sent.{bytes-behind}
 use Rattle.card.specs.declared.Standing.{Standing}
 use Rattle.card.specs.declared.Standing.the-variants.{GoesOn}
 use Rattle.card.specs.declared.Round.{Round}
@@ -113,7 +114,9 @@ step : (o : tie.After-one-round Inv-loop μ-loop)
 step o =
     let c = lent o in
     run-step (began o) (left o) (top c .loop .input) (buffer c) (after o) (answer c) (top c .loop .inv .3)
-    (omega (arith, held-small (top c), buffer-size c)) (few c) (front c) (o .one-round .ensures .1) (o .one-round .ensures .0 .1)
+    (omega (arith, held-small (top c), buffer-size c))
+    (bytes-behind (began o .held) (buffer c) (o .one-round .ensures .0 .2)) (few c) (front c)
+    (o .one-round .ensures .1) (o .one-round .ensures .0 .1)
 
 -- the arm of the other cases
 not-going : (s : Standing) → OneOf (1 ∷ 2 ∷ 3 ∷ 4 ∷ 5 ∷ []) (tagOf the-type s) → s ≡ GoesOn → ⊥
