@@ -5,6 +5,7 @@ use crate::answer::of_interface;
 use crate::answer::of_ticks;
 use crate::answer::of_verdict;
 use crate::line::Line;
+use crate::line::PAIRS;
 ghost use mathlib.Core.Path.{_≡_};
 ghost use Prim.Native.Nat.{_+_, _≤_, _<_};
 ghost use Rattle.queries.specs.Text.{textOf, lineOf};
@@ -75,10 +76,10 @@ fn most(word: Word) -> usize
 {
     match word {
         Word::Supply => 3,
-        Word::Demand => 18446744073709551615,
-        Word::Check => 18446744073709551615,
-        Word::Least => 18446744073709551615,
-        Word::Best => 18446744073709551615,
+        Word::Demand => usize::MAX,
+        Word::Check => usize::MAX,
+        Word::Least => usize::MAX,
+        Word::Best => usize::MAX,
     }
 }
 
@@ -96,17 +97,24 @@ fn first_bad(heads: usize, most: usize, count: usize, bad: usize) -> usize
     if most < bad { most + 1 } else { bad }
 }
 
-// Of n fields of tasks the periods; at most 17, which are too many already.
+// As many tasks are too many already.
+const TOO_MANY: usize = 17;
+
+// Of n fields of tasks the periods, as far as they are not too many already.
 fn periods_of(n: usize) -> usize
     ensures { λ r. ⌜ (r ≡ periodsOf n) × (r ≤ 17) ⌝ }
 {
-    if 34 < n { 17 } else { (n + 1) / 2 }
+    if 2 * TOO_MANY < n {
+        TOO_MANY
+    } else {
+        (n + 1) / 2
+    }
 }
 
 fn costs_of(n: usize) -> usize
     ensures { λ r. ⌜ (r ≡ costsOf n) × (r ≤ 17) ⌝ }
 {
-    if 34 < n { 17 } else { n / 2 }
+    if 2 * TOO_MANY < n { TOO_MANY } else { n / 2 }
 }
 
 // What the word asks, with the first three fields and the tasks.
@@ -124,7 +132,7 @@ fn put_to_shares(word: Word, a: u32, b: u32, c: u32, periods: &[u32], costs: &[u
 
 // The tasks stand behind the word's own fields: behind two of them the odd fields are the periods, behind
 // one the even ones are. (Behind supply's three there are none.)
-fn with_tasks(word: Word, heads: usize, n: usize, odd: &[u32; 19], even: &[u32; 19]) -> Answer
+fn with_tasks(word: Word, heads: usize, n: usize, odd: &[u32; PAIRS], even: &[u32; PAIRS]) -> Answer
     ensures { λ r. ⌜ textOf r ≡ lineOf (replyOf word heads n (now (odd .entry)) (now (even .entry))) ⌝ }
 {
     let odds = &odd[..];

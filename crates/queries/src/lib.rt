@@ -11,3 +11,4 @@ pub use line::Line;
 pub use line::answer_whole;
 pub use part::Served;
 pub use part::serve;
+pub use write::LONGEST_ANSWER;

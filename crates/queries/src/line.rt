@@ -1,6 +1,7 @@
 // A line of text, fed in parts, without its newline.
 use crate::ask::asked;
 use crate::reading::Reading;
+use crate::write::LONGEST_ANSWER;
 use crate::write::written;
 ghost use mathlib.Core.Path.{_≡_};
 ghost use Rattle.queries.specs.Reading.{oddKept, evenKept, startLine, fedBytes};
@@ -8,19 +9,25 @@ ghost use Rattle.queries.specs.Text.{Written};
 ghost use Rattle.queries.specs.Answer.{answerOf};
 ghost use Rattle.queries.specs.Meaning.{lineMeans};
 
+// The last field whose number is kept.
+const LAST_KEPT: usize = 37;
+
+// Fields 2k and 2k + 1 are a pair, whose numbers stand at k.
+pub(crate) const PAIRS: usize = (LAST_KEPT + 1) / 2;
+
 // The numbers of the first 37 fields are kept; two fields and 17 tasks, too many already, are 36. That of
 // field k stands at k / 2, the odd fields' and the even ones' apart, so that a task list's periods stand
 // in one of the two arrays and its costs in the other.
 pub struct Line {
-    pub(crate) odd: [u32; 19],
-    pub(crate) even: [u32; 19],
+    pub(crate) odd: [u32; PAIRS],
+    pub(crate) even: [u32; PAIRS],
     pub(crate) reading: Reading,
 }
 
-fn keep(odd: &mut [u32; 19], even: &mut [u32; 19], count: usize, value: u32)
+fn keep(odd: &mut [u32; PAIRS], even: &mut [u32; PAIRS], count: usize, value: u32)
     ensures { λ _. ⌜ (now (odd .exit) ≡ oddKept (now (odd .entry)) count value) × (now (even .exit) ≡ evenKept (now (even .entry)) count value) ⌝ }
 {
-    if 37 < count {
+    if LAST_KEPT < count {
         return;
     }
     let place = count / 2;
@@ -37,8 +44,8 @@ impl Line {
     {
         let reading = Reading::start();
         Line {
-            odd: [0; 19],
-            even: [0; 19],
+            odd: [0; PAIRS],
+            even: [0; PAIRS],
             reading,
         }
     }
@@ -59,7 +66,7 @@ impl Line {
 
     // The line that answers this one, at the start of `out`, and how many bytes it has; none where
     // this one is empty.
-    pub fn answer(self, out: &mut [u8; 64]) -> usize
+    pub fn answer(self, out: &mut [u8; LONGEST_ANSWER]) -> usize
         ensures { λ r. ⌜ Written (answerOf self) (now (out .entry)) (now (out .exit)) r ⌝ }
     {
         written(asked(self), out)
@@ -67,7 +74,7 @@ impl Line {
 }
 
 // A whole line at once: what it means, and no word of how it is read.
-pub fn answer_whole(line: &[u8], out: &mut [u8; 64]) -> usize
+pub fn answer_whole(line: &[u8], out: &mut [u8; LONGEST_ANSWER]) -> usize
     ensures { λ r. ⌜ Written (lineMeans (now (line .entry))) (now (out .entry)) (now (out .exit)) r ⌝ }
 {
     Line::start().fed(line).answer(out)

@@ -1,5 +1,6 @@
 // A part of the input: the answers to the lines that end in it.
 use crate::line::Line;
+use crate::write::LONGEST_ANSWER;
 ghost use mathlib.Core.Path.{_≡_};
 ghost use Prim.Native.Nat.{_+_, _≤_};
 ghost use mathlib.Core.List.{[]};
@@ -7,7 +8,7 @@ ghost use lib.ListN.{length};
 ghost use lib.Seq.{paste};
 ghost use Rattle.queries.specs.Serve.{LineEnd, ServedAs, servedPart};
 
-const NEWLINE: u8 = 10;
+const NEWLINE: u8 = b'\n';
 
 pub struct Served {
     // The line that has begun and not ended.
@@ -33,7 +34,7 @@ fn line_end(input: &[u8], from: usize) -> usize
     k
 }
 
-fn append(out: &mut [u8], at: usize, text: &[u8; 64], n: usize)
+fn append(out: &mut [u8], at: usize, text: &[u8; LONGEST_ANSWER], n: usize)
     requires { ⌜ (at + n ≤ length (now out)) × (n ≤ 64) ⌝ }
     ensures { λ _. ⌜ now (out .exit) ≡ paste (now (out .entry)) at (now (text .entry)) n ⌝ }
 {
@@ -61,14 +62,14 @@ pub fn serve(start: Line, input: &[u8], out: &mut [u8]) -> Served
                 count,
             };
         }
-        if out.len() < count + 64 {
+        if out.len() < count + LONGEST_ANSWER {
             return Served {
                 line,
                 used: end,
                 count,
             };
         }
-        let mut text = [0u8; 64];
+        let mut text = [0u8; LONGEST_ANSWER];
         let n = line.answer(&mut text);
         append(out, count, &text, n);
         line = Line::start();

@@ -6,9 +6,15 @@ ghost use Rattle.queries.specs.Reading.{lettered, figured, oneMore, star
 ghost use Rattle.queries.specs.Reading.{released as releasedRead};
 ghost use Rattle.queries.specs.Meaning.{isDigit};
 
-const SPACE: u8 = 32;
+const SPACE: u8 = b' ';
 
-const RETURN: u8 = 13;
+const RETURN: u8 = b'\r';
+
+// A word of seven bytes is at least this.
+const SEVEN_BYTES: u64 = 1 << 56;
+
+// Far above every limit.
+const FAR: u32 = 400000000;
 
 pub struct Reading {
     // The word as a number: 1, then each byte as a digit of base 256.
@@ -28,14 +34,14 @@ pub struct Reading {
 fn is_digit(byte: u8) -> bool
     ensures { λ r. ⌜ r ≡ isDigit byte ⌝ }
 {
-    48 <= byte && byte <= 57
+    b'0' <= byte && byte <= b'9'
 }
 
 // A word of seven bytes is none of ours, however it goes on.
 fn with_letter(word: u64, byte: u8) -> u64
     ensures { λ r. ⌜ r ≡ lettered word byte ⌝ }
 {
-    if word < 72057594037927936 {
+    if word < SEVEN_BYTES {
         word * 256 + byte as u64
     } else {
         word
@@ -47,8 +53,8 @@ fn with_digit(n: u32, byte: u8) -> u32
     requires { ⌜ isDigit byte ≡ true ⌝ }
     ensures { λ r. ⌜ r ≡ figured n byte ⌝ }
 {
-    if n < 400000000 {
-        n * 10 + (byte - 48) as u32
+    if n < FAR {
+        n * 10 + (byte - b'0') as u32
     } else {
         n
     }
@@ -58,11 +64,7 @@ fn with_digit(n: u32, byte: u8) -> u32
 fn one_more(count: usize) -> usize
     ensures { λ r. ⌜ r ≡ oneMore count ⌝ }
 {
-    if count < 18446744073709551615 {
-        count + 1
-    } else {
-        count
-    }
+    if count < usize::MAX { count + 1 } else { count }
 }
 
 // The first of two places, 0 standing for none.

@@ -7,6 +7,9 @@ ghost use lib.ListN.{length};
 ghost use Rattle.text.specs.Text.{decimal, Put};
 ghost use Rattle.queries.specs.Text.{textOf, Written};
 
+// No line of an answer has more bytes.
+pub const LONGEST_ANSWER: usize = 64;
+
 fn put(out: &mut [u8], at: usize, text: &[u8]) -> usize
     requires { ⌜ at + length (now text) ≤ length (now out) ⌝ }
     ensures { λ r. ⌜ Put (now (out .entry)) at (now (text .entry)) (now (out .exit)) r ⌝ }
@@ -20,23 +23,23 @@ fn put(out: &mut [u8], at: usize, text: &[u8]) -> usize
 }
 
 // A space and a number.
-fn put_field(out: &mut [u8; 64], at: usize, n: u64) -> usize
+fn put_field(out: &mut [u8; LONGEST_ANSWER], at: usize, n: u64) -> usize
     requires { ⌜ at + 21 ≤ 64 ⌝ }
     ensures { λ r. ⌜ Put (now (out .entry)) at (32 ∷ decimal n) (now (out .exit)) r × (r ≤ at + 21) ⌝ }
 {
-    out[at] = 32;
+    out[at] = b' ';
     put_number(out, at + 1, n)
 }
 
-fn put_end(out: &mut [u8; 64], at: usize) -> usize
+fn put_end(out: &mut [u8; LONGEST_ANSWER], at: usize) -> usize
     requires { ⌜ at + 1 ≤ 64 ⌝ }
     ensures { λ r. ⌜ Put (now (out .entry)) at (10 ∷ []) (now (out .exit)) r ⌝ }
 {
-    out[at] = 10;
+    out[at] = b'\n';
     at + 1
 }
 
-pub(crate) fn written(answer: Answer, out: &mut [u8; 64]) -> usize
+pub(crate) fn written(answer: Answer, out: &mut [u8; LONGEST_ANSWER]) -> usize
     ensures { λ r. ⌜ Written (textOf answer) (now (out .entry)) (now (out .exit)) r ⌝ }
 {
     match answer {

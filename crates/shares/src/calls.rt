@@ -14,6 +14,7 @@ use crate::rows::tasks_row;
 use crate::search::best_share;
 use crate::search::first_budget;
 use crate::search::least_under;
+use crate::table::CELLS;
 use crate::table::demand_of_one;
 use crate::table::fill;
 ghost use mathlib.Core.Path.{_≡_};
@@ -88,10 +89,10 @@ pub fn check(periods: &[u32], costs: &[u32], p: u32, b: u32) -> Verdict
     if !fits {
         return Verdict::No(refusal(33));
     }
-    let mut demands = [0u16; 32016];
+    let mut demands = [0u16; CELLS];
     fill(periods, costs, &mut demands);
     // One budget is tried once: zeros are leaps enough.
-    let leaps = [0u16; 32016];
+    let leaps = [0u16; CELLS];
     if first_budget(periods, costs, &demands, &leaps, p, b, b) == 0 {
         Verdict::Fails
     } else {
@@ -111,8 +112,8 @@ pub fn least(periods: &[u32], costs: &[u32], p: u32) -> Budget
     if !fits {
         return Budget::No(refusal(33));
     }
-    let mut demands = [0u16; 32016];
-    let mut leaps = [0u16; 32016];
+    let mut demands = [0u16; CELLS];
+    let mut leaps = [0u16; CELLS];
     fill(periods, costs, &mut demands);
     fill_leaps(periods, costs, &demands, &mut leaps);
     let budget = least_under(periods, costs, &demands, &leaps, p, p);
@@ -135,8 +136,8 @@ pub fn best(periods: &[u32], costs: &[u32], p_max: u32) -> Interface
     if !fits {
         return Interface::No(refusal(33));
     }
-    let mut demands = [0u16; 32016];
-    let mut leaps = [0u16; 32016];
+    let mut demands = [0u16; CELLS];
+    let mut leaps = [0u16; CELLS];
     fill(periods, costs, &mut demands);
     fill_leaps(periods, costs, &demands, &mut leaps);
     let share = best_share(periods, costs, &demands, &leaps, p_max);

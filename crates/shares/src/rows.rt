@@ -20,10 +20,7 @@ pub(crate) fn is_within(x: u32, n: u32) -> bool
 pub(crate) fn is_in_range(p: u32, b: u32) -> bool
     ensures { λ r. ⌜ r ≡ inRange p b ⌝ }
 {
-    if is_within(p, LONGEST) {
-        return is_within(b, p);
-    }
-    false
+    is_within(p, LONGEST) && is_within(b, p)
 }
 
 // The first place, from 1, of a task whose numbers are out of range (row 31); 0 where there is none.

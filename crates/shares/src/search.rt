@@ -3,6 +3,7 @@
 use crate::answers::Share;
 use crate::curve::waited;
 use crate::leaps::leap;
+use crate::rows::MOST_TASKS;
 use crate::table::wide;
 ghost use mathlib.Core.Path.{_≡_};
 ghost use mathlib.Core.Bool.{_&&_};
@@ -39,7 +40,7 @@ pub(crate) fn first_budget(
         }
         'tasks: while i < n {
             'lengths: loop {
-                let d = wide(demands[t as usize * 16 + i]);
+                let d = wide(demands[t as usize * MOST_TASKS + i]);
                 let spare = waited(p, b, d);
                 if d + spare <= t {
                     i += 1;

@@ -3,6 +3,7 @@
 use libc::STDERR_FILENO;
 use libc::STDIN_FILENO;
 use libc::STDOUT_FILENO;
+use queries::LONGEST_ANSWER;
 use queries::Line;
 use queries::serve;
 ghost use Prim.Native.Nat.{_≤_};
@@ -42,7 +43,7 @@ fn answered(start: Line, input: &[u8], out: &mut [u8]) -> Round
     Round { line, more: true }
 }
 
-fn is_told(text: &[u8; 64], count: usize) -> bool
+fn is_told(text: &[u8; LONGEST_ANSWER], count: usize) -> bool
     requires { ⌜ count ≤ 64 ⌝ }
 {
     is_written(&text[..], count)
@@ -50,7 +51,7 @@ fn is_told(text: &[u8; 64], count: usize) -> bool
 
 // The end of the input ends the last line.
 fn finished(line: Line) -> Round {
-    let mut text = [0u8; 64];
+    let mut text = [0u8; LONGEST_ANSWER];
     let n = line.answer(&mut text);
     is_told(&text, n);
     Round { line, more: false }

@@ -53,10 +53,10 @@ fn put_digits(out: &mut [u8], at: usize, n: u64) -> usize
     let mut rest = n;
     while 10 <= rest {
         i -= 1;
-        out[i] = 48 + (rest % 10) as u8;
+        out[i] = b'0' + (rest % 10) as u8;
         rest /= 10;
     }
-    out[at] = 48 + rest as u8;
+    out[at] = b'0' + rest as u8;
     end
 }
 

@@ -14,13 +14,15 @@ is-within-requires-2 c κs = search needs
 
 returns : tie.Need-returns
 returns c =
-    let e : within (c .before .before .before .args .p) 2000 ≡ true = sym (c .before .before .is-within .ensures) ∙ c .before .if1 .taken in
+    let first = c .before .before in
+    let e : within (first .before .args .p) 2000 ≡ true = sym (first .is-within .ensures) ∙ c .before .if1 .taken in
     rw e (c .is-within2 .ensures)
 
 returns-2 : tie.Need-returns-2
 returns-2 c =
-    let e : within (c .before .before .args .p) 2000 ≡ false = sym (c .before .is-within .ensures) ∙ c .if1 .left in
-    rw e
+    let first = c .before in
+    let e : within (first .before .args .p) 2000 ≡ false = sym (first .is-within .ensures) ∙ c .if1 .left in
+    rw e (c .if1 .left)
 
 pub is-in-range-spec : {M : Type 1} → statement M
 is-in-range-spec = tie.close (tie.spec is-within-requires is-within-requires-2 returns returns-2)
