@@ -35,7 +35,8 @@ alike-number [] n m e a = a
 alike-number (b ∷ f) n m e a = go (isDigit b) refl e (alike-number f (digitStep n b) (m * 10 + (b - 48)))
   where
     go : (t : Bool) → isDigit b ≡ t → (t && allDigits f) ≡ true
-        → (allDigits f ≡ true → Alike 3000 (digitStep n b) (m * 10 + (b - 48)) → Alike 3000 (capped (digitStep n b) f) (numberFrom (m * 10 + (b - 48)) f))
+        → (allDigits f ≡ true → Alike 3000 (digitStep n b) (m * 10 + (b - 48))
+        → Alike 3000 (capped (digitStep n b) f) (numberFrom (m * 10 + (b - 48)) f))
         → Alike 3000 (capped (digitStep n b) f) (numberFrom (m * 10 + (b - 48)) f)
     go true p q r = r q (alike-digit n m b p a)
     go false p q r = let z : _≡_ {A = ℕ} 0 1 = cc in absurd (omega arith)

@@ -12,7 +12,8 @@ use lib.Seq.{ext-getD}
 use borrow.Author.Tests.{ltb-false, eqb-true, eqb-false}
 use Rattle.model.specs.Search.{first, orElse}
 use Rattle.model.specs.Reply.{Reply, refuses}
-use Rattle.model.specs.Rows.{within, row, miscounted, outOfRange, falls, tasksRow, tasksRows, demandReply, checkReply, leastReply, bestReply}
+use Rattle.model.specs.Rows.{within, row, miscounted, outOfRange, falls, tasksRow, tasksRows, demandReply, checkReply}
+use Rattle.model.specs.Rows.{leastReply, bestReply}
 use Rattle.queries.proofs.Alike.{Alike, bad-share, share-large, budget-large, within-limit, share-alike, period-alike, length-alike}
 
 first-same : (f g : ℕ → Bool) → ((k : ℕ) → f k ≡ g k) → (n : ℕ) → first f n ≡ first g n
@@ -38,10 +39,14 @@ module _ (ps es ps′ es′ : List ℕ) (lp : length ps ≡ length ps′) (le : 
   out-alike : (k : ℕ) → outOfRange ps es k ≡ outOfRange ps′ es′ k
   out-alike k = go (ap₁ (k - 1)) (ap₂ (k - 1))
     where
-      go : Alike 3000 (getD ps (k - 1) 0) (getD ps′ (k - 1) 0) → Alike 3000 (getD es (k - 1) 0) (getD es′ (k - 1) 0) → outOfRange ps es k ≡ outOfRange ps′ es′ k
+      go : Alike 3000 (getD ps (k - 1) 0) (getD ps′ (k - 1) 0) → Alike 3000 (getD es (k - 1) 0) (getD es′ (k - 1) 0)
+          → outOfRange ps es k ≡ outOfRange ps′ es′ k
       go (inl p) (inl q) = rw (p, q)
-      go (inl p) (inr q) = budget-large (getD ps (k - 1) 0) (getD es (k - 1) 0) (q .0) ∙ sym (budget-large (getD ps′ (k - 1) 0) (getD es′ (k - 1) 0) (q .1))
-      go (inr p) e = share-large (getD ps (k - 1) 0) (getD es (k - 1) 0) (p .0) ∙ sym (share-large (getD ps′ (k - 1) 0) (getD es′ (k - 1) 0) (p .1))
+      go (inl p) (inr q) =
+          budget-large (getD ps (k - 1) 0) (getD es (k - 1) 0) (q .0)
+          ∙ sym (budget-large (getD ps′ (k - 1) 0) (getD es′ (k - 1) 0) (q .1))
+      go (inr p) e =
+          share-large (getD ps (k - 1) 0) (getD es (k - 1) 0) (p .0) ∙ sym (share-large (getD ps′ (k - 1) 0) (getD es′ (k - 1) 0) (p .1))
 
   firsts : first (outOfRange ps es) (length ps) ≡ first (outOfRange ps′ es′) (length ps′)
   firsts = first-same (outOfRange ps es) (outOfRange ps′ es′) out-alike (length ps) ∙ ap (first (outOfRange ps′ es′)) lp
@@ -89,7 +94,8 @@ module _ (ps es : List ℕ) (X : Reply) where
 counts : (ps es : List ℕ) → miscounted ps es ≡ false → (length ps ≤ 16) × (length ps ≡ length es)
 counts ps es e = go (within (length ps) 16) (eqb (length ps) (length es)) refl refl e
   where
-    go : (s t : Bool) → within (length ps) 16 ≡ s → eqb (length ps) (length es) ≡ t → (not s || not t) ≡ false → (length ps ≤ 16) × (length ps ≡ length es)
+    go : (s t : Bool) → within (length ps) 16 ≡ s → eqb (length ps) (length es) ≡ t → (not s || not t) ≡ false
+        → (length ps ≤ 16) × (length ps ≡ length es)
     go true true p q r = (within-limit (length ps) 16 p, eqb-true (length ps) (length es) q)
     go true false p q r = let z : _≡_ {A = ℕ} 0 1 = cc in absurd (omega arith)
     go false t p q r = let z : _≡_ {A = ℕ} 0 1 = cc in absurd (omega arith)
@@ -122,7 +128,8 @@ module _ (ps es ps′ es′ : List ℕ) (a : Alikes ps ps′) (b : Alikes es es�
   pub demand-alike : (t t′ : ℕ) → Alike 3000 t t′ → demandReply ps es x t ≡ demandReply ps′ es′ x′ t′
   unfolding demandReply
   demand-alike t t′ q =
-      tasks-alike ps es ps′ es′ a b _ _ (λ few e f. rw (← e, ← f) (length-alike (length ps) x x′ t t′ (omega arith) p q _ _ (λ g h. rw (g, h))))
+      tasks-alike ps es ps′ es′ a b _ _
+      (λ few e f. rw (← e, ← f) (length-alike (length ps) x x′ t t′ (omega arith) p q _ _ (λ g h. rw (g, h))))
 
   pub check-alike : (B B′ : ℕ) → Alike 3000 B B′ → checkReply ps es x B ≡ checkReply ps′ es′ x′ B′
   unfolding checkReply

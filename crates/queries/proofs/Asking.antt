@@ -20,13 +20,15 @@ less a x = omega arith
 
 module _ (w : Word) (h n p e : ℕ) (odd even t : List ℕ) (ep : p ≡ periodsOf n) (ee : e ≡ costsOf n) where
   pub behind-two : h ≡ 2
-      → t ≡ lineOf (replyTo w (getD odd 0 0) (getD even 1 0) (getD odd 1 0) (take (1 + p - 1) (drop 1 odd)) (take (2 + e - 2) (drop 2 even)))
+      → t ≡ lineOf
+      (replyTo w (getD odd 0 0) (getD even 1 0) (getD odd 1 0) (take (1 + p - 1) (drop 1 odd)) (take (2 + e - 2) (drop 2 even)))
       → t ≡ lineOf (replyOf w h n odd even)
   unfolding replyOf
   behind-two eh q = q ∙ rw (less 1 p, less 2 e, ep, ee, eq-eqb h 2 eh)
 
   pub behind-one : (h ≡ 2 → ⊥)
-      → t ≡ lineOf (replyTo w (getD odd 0 0) (getD even 1 0) (getD odd 1 0) (take (1 + p - 1) (drop 1 even)) (take (1 + e - 1) (drop 1 odd)))
+      → t ≡ lineOf
+      (replyTo w (getD odd 0 0) (getD even 1 0) (getD odd 1 0) (take (1 + p - 1) (drop 1 even)) (take (1 + e - 1) (drop 1 odd)))
       → t ≡ lineOf (replyOf w h n odd even)
   unfolding replyOf
   behind-one eh q = q ∙ rw (less 1 p, less 1 e, ep, ee, ne-eqb h 2 eh)
@@ -47,7 +49,8 @@ module _ (l : Line) where
   unfolding answerOf
   answer-blank e = rw e
 
-  pub answer-unknown : isBlank (l .reading .word) (l .reading .count) ≡ false → wordOf (l .reading .word) ≡ Unknown → said badWord [] ≡ answerOf l
+  pub answer-unknown : isBlank (l .reading .word) (l .reading .count) ≡ false → wordOf (l .reading .word) ≡ Unknown
+      → said badWord [] ≡ answerOf l
   unfolding answerOf
   answer-unknown e u = rw (e, u)
 

@@ -26,7 +26,8 @@ module _ (b : ℕ) (n : b ≡ 32 → ⊥) where
   until-in [] e = rw (ne-eqb b 32 n)
   until-in (x ∷ t) e = go (eqb x 32) e (until-in t)
     where
-      go : (s : Bool) → cond s (untilSpace t ∷ fieldsOf t) (fieldsOf t) ≡ [] → (fieldsOf t ≡ [] → untilSpace (t ++ (b ∷ [])) ≡ untilSpace t ++ (b ∷ []))
+      go : (s : Bool) → cond s (untilSpace t ∷ fieldsOf t) (fieldsOf t) ≡ []
+          → (fieldsOf t ≡ [] → untilSpace (t ++ (b ∷ [])) ≡ untilSpace t ++ (b ∷ []))
           → cond s [] (x ∷ untilSpace (t ++ (b ∷ []))) ≡ cond s [] (x ∷ untilSpace t) ++ (b ∷ [])
       go true e r = absurd (none-one _ _ e)
       go false e r = ap (λ (u : List ℕ). x ∷ u) (r e)
@@ -35,7 +36,8 @@ pub until-behind : (b : ℕ) (t f : List ℕ) (fs : List (List ℕ)) → fieldsO
 until-behind b [] f fs e = absurd (none-one f fs (sym e))
 until-behind b (x ∷ t) f fs e = go (eqb x 32) e (until-behind b t f fs)
   where
-    go : (s : Bool) → cond s (untilSpace t ∷ fieldsOf t) (fieldsOf t) ≡ f ∷ fs → (fieldsOf t ≡ f ∷ fs → untilSpace (t ++ (b ∷ [])) ≡ untilSpace t)
+    go : (s : Bool) → cond s (untilSpace t ∷ fieldsOf t) (fieldsOf t) ≡ f ∷ fs
+        → (fieldsOf t ≡ f ∷ fs → untilSpace (t ++ (b ∷ [])) ≡ untilSpace t)
         → cond s [] (x ∷ untilSpace (t ++ (b ∷ []))) ≡ cond s [] (x ∷ untilSpace t)
     go true e r = refl
     go false e r = ap (λ (u : List ℕ). x ∷ u) (r e)
@@ -45,7 +47,8 @@ fields-space [] = refl
 fields-space (x ∷ t) = go (eqb x 32) (fields-space t)
   where
     go : (s : Bool) → fieldsOf (t ++ (32 ∷ [])) ≡ fieldsOf t ++ ([] ∷ [])
-        → cond s (untilSpace (t ++ (32 ∷ [])) ∷ fieldsOf (t ++ (32 ∷ []))) (fieldsOf (t ++ (32 ∷ []))) ≡ cond s (untilSpace t ∷ fieldsOf t) (fieldsOf t) ++ ([] ∷ [])
+        → cond s (untilSpace (t ++ (32 ∷ [])) ∷ fieldsOf (t ++ (32 ∷ []))) (fieldsOf (t ++ (32 ∷ [])))
+        ≡ cond s (untilSpace t ∷ fieldsOf t) (fieldsOf t) ++ ([] ∷ [])
     go true r = rw (until-space t, r)
     go false r = r
 
@@ -54,7 +57,8 @@ fields-byte b n [] = rw (ne-eqb b 32 n)
 fields-byte b n (x ∷ t) = go (eqb x 32) (fieldsOf t) refl (fields-byte b n t)
   where
     go : (s : Bool) (fs : List (List ℕ)) → fieldsOf t ≡ fs → fieldsOf (t ++ (b ∷ [])) ≡ onLast b (fieldsOf t)
-        → cond s (untilSpace (t ++ (b ∷ [])) ∷ fieldsOf (t ++ (b ∷ []))) (fieldsOf (t ++ (b ∷ []))) ≡ onLast b (cond s (untilSpace t ∷ fieldsOf t) (fieldsOf t))
+        → cond s (untilSpace (t ++ (b ∷ [])) ∷ fieldsOf (t ++ (b ∷ []))) (fieldsOf (t ++ (b ∷ [])))
+        ≡ onLast b (cond s (untilSpace t ∷ fieldsOf t) (fieldsOf t))
     go false fs e r = r
     go true [] e r = rw (r, e, until-in b n t e)
     go true (f ∷ fs) e r = rw (r, until-behind b t f fs e, e)

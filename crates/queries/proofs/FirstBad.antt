@@ -46,11 +46,13 @@ module _ (f g : ℕ → Bool) (h m n b : ℕ) (hm : h ≤ m)
       go true true u v es et eu ev =
           let z : b ≡ 0 = eqb-true b 0 es in
           let l : n < h = ltb-true n h et in
-          sym (first-is f (max n h) (n + 1) (omega arith) (omega arith) (missing l) (λ j x y. good j x (omega arith) (omega arith) (none z j x (omega arith))))
+          sym (first-is f (max n h) (n + 1) (omega arith) (omega arith) (missing l)
+          (λ j x y. good j x (omega arith) (omega arith) (none z j x (omega arith))))
       go true false true v es et eu ev =
           let z : b ≡ 0 = eqb-true b 0 es in
           let l : m < n = ltb-true m n eu in
-          sym (first-is f (max n h) (m + 1) (omega arith) (omega arith) (many l) (λ j x y. good j x (omega arith) (omega arith) (none z j x (omega arith))))
+          sym (first-is f (max n h) (m + 1) (omega arith) (omega arith) (many l)
+          (λ j x y. good j x (omega arith) (omega arith) (none z j x (omega arith))))
       go true false false v es et eu ev =
           let z : b ≡ 0 = eqb-true b 0 es in
           let l : h ≤ n = ltb-false n h et in
@@ -108,7 +110,8 @@ found k (f ∷ fs) n = go (isNumber f) refl n (found (suc k) fs)
         }
       where
         earlier : (i : ℕ) → i < suc (firstNoNumber (suc (suc k)) fs - suc (suc k))
-            → ((i : ℕ) → i < firstNoNumber (suc (suc k)) fs - suc (suc k) → isNumber (getD fs i []) ≡ true) → isNumber (getD (f ∷ fs) i []) ≡ true
+            → ((i : ℕ) → i < firstNoNumber (suc (suc k)) fs - suc (suc k) → isNumber (getD fs i []) ≡ true)
+            → isNumber (getD (f ∷ fs) i []) ≡ true
         earlier zero h r = p
         earlier (suc i) h r = r i (omega arith)
 

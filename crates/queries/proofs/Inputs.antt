@@ -30,12 +30,14 @@ fed-none : startLine ≡ fedBytes startLine []
 unfolding fedBytes
 fed-none = refl
 
-lines-answer : (bs t : List ℕ) → Bytes t → Bytes bs → length t + length bs + 2 < 2 ^ 64 - 1 → answers (fedBytes startLine t) bs ≡ linesMean t bs
+lines-answer : (bs t : List ℕ) → Bytes t → Bytes bs → length t + length bs + 2 < 2 ^ 64 - 1
+    → answers (fedBytes startLine t) bs ≡ linesMean t bs
 unfolding answers linesMean
 lines-answer [] t ht hb few = answer-means t ht (omega arith)
 lines-answer (b ∷ bs) t ht hb few =
     go (eqb b 10) (answer-means t ht (omega arith)) (ap (λ l. answers l bs) fed-none ∙ lines-answer bs [] tt (hb .1) (omega arith))
-    (ap (λ l. answers l bs) (fed-one t b) ∙ lines-answer bs (t ++ (b ∷ [])) (bytes-more t b ht (hb .0)) (hb .1) (omega (arith, length-append t (b ∷ []))))
+    (ap (λ l. answers l bs) (fed-one t b)
+    ∙ lines-answer bs (t ++ (b ∷ [])) (bytes-more t b ht (hb .0)) (hb .1) (omega (arith, length-append t (b ∷ []))))
   where
     go : (s : Bool) → answerOf (fedBytes startLine t) ≡ lineMeans t → answers startLine bs ≡ linesMean [] bs
         → answers (fedByte (fedBytes startLine t) b) bs ≡ linesMean (t ++ (b ∷ [])) bs
@@ -63,7 +65,8 @@ goes-keep (suc k) room l bytes behind some-room few =
   where
     fewer : (bytes : List ℕ) → length bytes ≤ suc k → length (drop (servedPart room l [] bytes .used) bytes) ≤ k
     fewer [] few = omega (arith, length-drop {A = ℕ} (servedPart room l [] [] .used) [])
-    fewer (b ∷ bs) few = omega (arith, length-drop (servedPart room l [] (b ∷ bs) .used) (b ∷ bs), first-used room l (b ∷ bs) some-room (omega arith))
+    fewer (b ∷ bs) few =
+        omega (arith, length-drop (servedPart room l [] (b ∷ bs) .used) (b ∷ bs), first-used room l (b ∷ bs) some-room (omega arith))
 
 parts-answer : (ps : List Part) (l : Line) → inParts l ps ≡ answers l (onePiece ps)
 unfolding inParts answers
@@ -74,5 +77,6 @@ parts-answer (p ∷ ps) l =
     ∙ goes-keep (length (p .bytes)) (p .room) l (p .bytes) (onePiece ps) (p .one-fits) (omega arith)
 
 -- any parts and any rooms: the answers are what the whole input means
-pub parts-mean : (ps : List Part) → Bytes (onePiece ps) → length (onePiece ps) + 2 < 2 ^ 64 - 1 → inParts startLine ps ≡ linesMean [] (onePiece ps)
+pub parts-mean : (ps : List Part) → Bytes (onePiece ps) → length (onePiece ps) + 2 < 2 ^ 64 - 1
+    → inParts startLine ps ≡ linesMean [] (onePiece ps)
 parts-mean ps h few = parts-answer ps startLine ∙ input-means (onePiece ps) h few

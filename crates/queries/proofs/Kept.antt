@@ -57,7 +57,8 @@ module _ (fs fs′ : List (List ℕ)) (odd even : List ℕ) (k : Kept fs odd eve
   unfolding oddKept
   odd-step i h = go (leb (length fs′) 37) (eqb (length fs′ % 2) 1) refl refl
     where
-      place : length fs′ % 2 ≡ 1 → (t : Bool) → eqb i (length fs′ / 2) ≡ t → getD (set odd (length fs′ / 2) (lastValue fs′)) i 0 ≡ valueAt fs′ (2 * i)
+      place : length fs′ % 2 ≡ 1 → (t : Bool) → eqb i (length fs′ / 2) ≡ t
+          → getD (set odd (length fs′ / 2) (lastValue fs′)) i 0 ≡ valueAt fs′ (2 * i)
       place p true e =
           let q : i ≡ length fs′ / 2 = eqb-true i (length fs′ / 2) e in
           let s : length fs′ / 2 < length odd = omega (arith, k .odd-size) in

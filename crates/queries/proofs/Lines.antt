@@ -40,7 +40,8 @@ fields-few (x ∷ t) = go (eqb x 32) (fields-few t)
     go false r = omega arith
 
 -- the numbers, with one byte more
-bytes-at : (t : List ℕ) (b i : ℕ) → (suc i ≡ length (fieldsOf (t ++ (b ∷ []))) → ⊥) → valueAt (fieldsOf (t ++ (b ∷ []))) i ≡ valueAt (fieldsOf t) i
+bytes-at : (t : List ℕ) (b i : ℕ) → (suc i ≡ length (fieldsOf (t ++ (b ∷ []))) → ⊥)
+    → valueAt (fieldsOf (t ++ (b ∷ []))) i ≡ valueAt (fieldsOf t) i
 bytes-at t b i h = go (eqb b 32) refl
   where
     go : (s : Bool) → eqb b 32 ≡ s → valueAt (fieldsOf (t ++ (b ∷ []))) i ≡ valueAt (fieldsOf t) i
@@ -83,7 +84,8 @@ module _ (h : Bool) (t : List ℕ) (l : Line) (b : ℕ) (r : Read h t l) (few : 
   pub step-other : (b ≡ 13 → ⊥) → Read false ((t ++ heldBack h) ++ (b ∷ [])) (fedByte l b)
   step-other e =
       goes l b t ((t ++ heldBack h) ++ (b ∷ [])) false (r .kept) (λ i n. bytes-at (t ++ heldBack h) b i n ∙ held-at h t i)
-      (byte-other (l .reading) b e ∙ ap (λ x. plainRead (released x) b) (r .reading-is) ∙ ap (λ x. plainRead x b) (release h t (omega arith))
+      (byte-other (l .reading) b e ∙ ap (λ x. plainRead (released x) b) (r .reading-is)
+      ∙ ap (λ x. plainRead x b) (release h t (omega arith))
       ∙ sym (reads-more (t ++ heldBack h) b (omega (arith, fields-few (t ++ heldBack h), held-few h t))))
 
 -- whether a carriage return is held back at the end
@@ -91,7 +93,8 @@ abbrev pub heldAfter : Bool → List ℕ → Bool
 heldAfter h [] = h
 heldAfter h (b ∷ bs) = heldAfter (eqb b 13) bs
 
-trimmed-held : (h : Bool) (b : ℕ) (bs : List ℕ) (s : Bool) → eqb b 13 ≡ s → trimmed (heldBack h ++ (b ∷ bs)) ≡ heldBack h ++ cond s (trimmed (13 ∷ bs)) (b ∷ trimmed bs)
+trimmed-held : (h : Bool) (b : ℕ) (bs : List ℕ) (s : Bool) → eqb b 13 ≡ s
+    → trimmed (heldBack h ++ (b ∷ bs)) ≡ heldBack h ++ cond s (trimmed (13 ∷ bs)) (b ∷ trimmed bs)
 trimmed-held false b bs true e = rw (eqb-true b 13 e)
 trimmed-held false b bs false e = rw e
 trimmed-held true b bs true e = rw (eqb-true b 13 e)
@@ -103,7 +106,8 @@ unfolding fedBytes
 reads-bytes [] false t l r few = rw append-nil r
 reads-bytes [] true t l r few = rw append-nil r
 reads-bytes (b ∷ bs) h t l r few =
-    go (eqb b 13) refl (reads-bytes bs true (t ++ heldBack h) (fedByte l b)) (reads-bytes bs false ((t ++ heldBack h) ++ (b ∷ [])) (fedByte l b))
+    go (eqb b 13) refl (reads-bytes bs true (t ++ heldBack h) (fedByte l b))
+    (reads-bytes bs false ((t ++ heldBack h) ++ (b ∷ [])) (fedByte l b))
     (omega (arith, length-append t (heldBack h)))
   where
     few-more : length ((t ++ heldBack h) ++ (13 ∷ [])) + length bs + 2 < 2 ^ 64 - 1
@@ -115,7 +119,8 @@ reads-bytes (b ∷ bs) h t l r few =
     go : (s : Bool) → eqb b 13 ≡ s
         → (Read true (t ++ heldBack h) (fedByte l b) → length ((t ++ heldBack h) ++ (13 ∷ [])) + length bs + 2 < 2 ^ 64 - 1
         → Read (heldAfter true bs) ((t ++ heldBack h) ++ trimmed (13 ∷ bs)) (fedBytes (fedByte l b) bs))
-        → (Read false ((t ++ heldBack h) ++ (b ∷ [])) (fedByte l b) → length (((t ++ heldBack h) ++ (b ∷ [])) ++ []) + length bs + 2 < 2 ^ 64 - 1
+        → (Read false ((t ++ heldBack h) ++ (b ∷ [])) (fedByte l b)
+        → length (((t ++ heldBack h) ++ (b ∷ [])) ++ []) + length bs + 2 < 2 ^ 64 - 1
         → Read (heldAfter false bs) (((t ++ heldBack h) ++ (b ∷ [])) ++ trimmed bs) (fedBytes (fedByte l b) bs))
         → length t + 2 < 2 ^ 64 - 1
         → Read (heldAfter s bs) (t ++ trimmed (heldBack h ++ (b ∷ bs))) (fedBytes (fedByte l b) bs)

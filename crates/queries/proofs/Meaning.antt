@@ -19,7 +19,8 @@ use Rattle.text.specs.Text.{number}
 use Rattle.queries.specs.Text.{said, badField, lineOf, Written}
 use Rattle.queries.specs.Reading.{startLine, fedBytes}
 use Rattle.queries.specs.Answer.{most, firstBad, replyOf, wordAnswer, answerOf}
-use Rattle.queries.specs.Meaning.{heads, firstBadField, isEmpty, trimmed, untilSpace, fieldsOf, spokenOf, allDigits, everyOther, replyWith, fieldsMean, bytesMean, lineMeans}
+use Rattle.queries.specs.Meaning.{heads, firstBadField, isEmpty, trimmed, untilSpace, fieldsOf, spokenOf}
+use Rattle.queries.specs.Meaning.{allDigits, everyOther, replyWith, fieldsMean, bytesMean, lineMeans}
 use Rattle.queries.proofs.Asking.{heads-stand}
 use Rattle.queries.proofs.Steps.{fed-append}
 use Rattle.queries.proofs.Readings.{firstNoNumber, capped, readingOf, first-no-number}
@@ -56,7 +57,8 @@ trimmed-few (x ∷ t) = go (eqb x 13 && isEmpty t) (trimmed-few t)
     go false r = omega arith
 
 -- where no field is bad, each kept number is like the one that was written
-alike-at : (k : ℕ) (fs : List (List ℕ)) → firstNoNumber (suc k) fs ≡ 0 → (i : ℕ) → Alike 3000 (capped 0 (getD fs i [])) (number (getD fs i []))
+alike-at : (k : ℕ) (fs : List (List ℕ)) → firstNoNumber (suc k) fs ≡ 0 → (i : ℕ)
+    → Alike 3000 (capped 0 (getD fs i [])) (number (getD fs i []))
 alike-at k [] e i = inl refl
 alike-at k (f ∷ fs) e i = go (isEmpty f) (allDigits f) refl e (alike-at (suc k) fs) i
   where
@@ -83,7 +85,8 @@ drop-alike h t xs ys a = record {
 
 replies-alike : (w : Word) (xs ys : List ℕ) → Alikes xs ys → replyWith w xs ≡ replyWith w ys
 replies-alike Supply xs ys a = supply-alike _ _ _ _ _ _ (a .each 0) (a .each 1) (a .each 2)
-replies-alike Demand xs ys a = demand-alike _ _ _ _ (drop-alike 2 true xs ys a) (drop-alike 2 false xs ys a) _ _ (a .each 0) _ _ (a .each 1)
+replies-alike Demand xs ys a =
+    demand-alike _ _ _ _ (drop-alike 2 true xs ys a) (drop-alike 2 false xs ys a) _ _ (a .each 0) _ _ (a .each 1)
 replies-alike Check xs ys a = check-alike _ _ _ _ (drop-alike 2 true xs ys a) (drop-alike 2 false xs ys a) _ _ (a .each 0) _ _ (a .each 1)
 replies-alike Least xs ys a = least-alike _ _ _ _ (drop-alike 1 true xs ys a) (drop-alike 1 false xs ys a) _ _ (a .each 0)
 replies-alike Best xs ys a = best-alike _ _ _ _ (drop-alike 1 true xs ys a) (drop-alike 1 false xs ys a) _ _ (a .each 0)
@@ -104,16 +107,20 @@ module _ (t : List ℕ) (odd even : List ℕ) (k : Kept (fieldsOf t) odd even) (
   answer s = wordAnswer s (record { odd = odd; even = even; reading = readingOf t })
 
   known : (w : Word) → answer (Known w) ≡ fieldsMean (Known w) (fieldsOf t)
-  known w = rw (first-no-number (untilSpace t) (fieldsOf t), field-first w (fieldsOf t) few) (go (eqb (firstBadField w (fieldsOf t)) 0) refl)
+  known w =
+      rw (first-no-number (untilSpace t) (fieldsOf t), field-first w (fieldsOf t) few) (go (eqb (firstBadField w (fieldsOf t)) 0) refl)
     where
       go : (s : Bool) → eqb (firstBadField w (fieldsOf t)) 0 ≡ s
-          → cond s (lineOf (replyOf w (heads w) (length (fieldsOf t) - heads w) odd even)) (said badField (firstBadField w (fieldsOf t) ∷ []))
+          → cond s (lineOf (replyOf w (heads w) (length (fieldsOf t) - heads w) odd even))
+          (said badField (firstBadField w (fieldsOf t) ∷ []))
           ≡ cond s (lineOf (replyWith w (map number (fieldsOf t)))) (said badField (firstBadField w (fieldsOf t) ∷ []))
       go false e = refl
       go true e =
           let z = field-first w (fieldsOf t) few ∙ eqb-true (firstBadField w (fieldsOf t)) 0 e in
-          ap lineOf (reply-kept (fieldsOf t) odd even k w (heads-stand (heads w) (most w) (length (fieldsOf t)) (firstNoNumber 1 (fieldsOf t)) z)
-          ∙ replies-alike w (values (fieldsOf t)) (map number (fieldsOf t)) (numbers-alike (fieldsOf t) (none-bad (heads w) (most w) (length (fieldsOf t)) (firstNoNumber 1 (fieldsOf t)) z)))
+          ap lineOf (reply-kept (fieldsOf t) odd even k w
+          (heads-stand (heads w) (most w) (length (fieldsOf t)) (firstNoNumber 1 (fieldsOf t)) z)
+          ∙ replies-alike w (values (fieldsOf t)) (map number (fieldsOf t))
+          (numbers-alike (fieldsOf t) (none-bad (heads w) (most w) (length (fieldsOf t)) (firstNoNumber 1 (fieldsOf t)) z)))
 
   spoken : (s : Spoken) → answer s ≡ fieldsMean s (fieldsOf t)
   spoken Unknown = refl
@@ -127,17 +134,20 @@ module _ (t : List ℕ) (odd even : List ℕ) (k : Kept (fieldsOf t) odd even) (
 
 read-means : (h : Bool) (t : List ℕ) (l : Line) → Bytes t → length (fieldsOf t) ≤ 2 ^ 64 - 1 → Read h t l → answerOf l ≡ bytesMean t
 unfolding answerOf
-read-means h t l b few r = ap (λ x. answerOf (record { odd = l .odd; even = l .even; reading = x })) (r .reading-is) ∙ go h t b few (r .kept)
+read-means h t l b few r =
+    ap (λ x. answerOf (record { odd = l .odd; even = l .even; reading = x })) (r .reading-is) ∙ go h t b few (r .kept)
   where
     go : (h : Bool) (t : List ℕ) → Bytes t → length (fieldsOf t) ≤ 2 ^ 64 - 1 → Kept (fieldsOf t) (l .odd) (l .even)
         → answerOf (record { odd = l .odd; even = l .even; reading = atEnd h t }) ≡ bytesMean t
     go false [] b few k = refl
     go true [] b few k = refl
     go false (x ∷ t) b few k =
-        rw (not-blank x t, spoken-same (untilSpace (x ∷ t)) (bytes-until (x ∷ t) b)) (spoken (x ∷ t) (l .odd) (l .even) k few (spokenOf (untilSpace (x ∷ t))))
+        rw (not-blank x t, spoken-same (untilSpace (x ∷ t)) (bytes-until (x ∷ t) b))
+        (spoken (x ∷ t) (l .odd) (l .even) k few (spokenOf (untilSpace (x ∷ t))))
     go true (x ∷ t) b few k =
         rw (not-blank x t, spoken-same (untilSpace (x ∷ t)) (bytes-until (x ∷ t) b))
-        (held (x ∷ t) (l .odd) (l .even) k few true (spokenOf (untilSpace (x ∷ t))) ∙ spoken (x ∷ t) (l .odd) (l .even) k few (spokenOf (untilSpace (x ∷ t))))
+        (held (x ∷ t) (l .odd) (l .even) k few true (spokenOf (untilSpace (x ∷ t)))
+        ∙ spoken (x ∷ t) (l .odd) (l .even) k few (spokenOf (untilSpace (x ∷ t))))
 
 pub answer-means : (line : List ℕ) → Bytes line → length line + 2 < 2 ^ 64 - 1 → answerOf (fedBytes startLine line) ≡ lineMeans line
 unfolding lineMeans

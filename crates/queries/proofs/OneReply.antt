@@ -32,4 +32,6 @@ pub whole-one : OneReplyAndBytes 2 whole.ps whole.r whole-promise.Post (λ κs x
 whole-one κs args a b x y p q = (p .count ∙ sym (q .count), p .whole ∙ sym (q .whole))
 
 pub serve-one : OneReplyAndBytes 2 serve.ps serve.r serve-promise.Post (λ κs x. now (x .1 .1 .0))
-serve-one κs args a b x y p q = (same-served a b (p .line-is ∙ sym (q .line-is)) (p .used-is ∙ sym (q .used-is)) (p .count-is ∙ sym (q .count-is)), p .whole ∙ sym (q .whole))
+serve-one κs args a b x y p q =
+    let same = same-served a b (p .line-is ∙ sym (q .line-is)) (p .used-is ∙ sym (q .used-is)) (p .count-is ∙ sym (q .count-is)) in
+    (same, p .whole ∙ sym (q .whole))

@@ -8,7 +8,8 @@ use native.Mathlib.Nat.{zero-add, add-assoc}
 use native.Mathlib.Numerals.{add-one}
 use lib.Dec.{eqb}
 use lib.ListN.{length, getD, take, drop, set, length-append, length-drop, take-append-drop}
-use lib.Seq.{paste, paste-suc, length-paste, take-paste, drop-paste, drop-cons, drop-drop, length-take-le, getD-take, getD-drop, drop-length, take-append-seam}
+use lib.Seq.{paste, paste-suc, length-paste, take-paste, drop-paste, drop-cons, drop-drop, length-take-le, getD-take}
+use lib.Seq.{getD-drop, drop-length, take-append-seam}
 use borrow.Author.Tests.{eqb-true, eqb-false, ne-eqb, lt-ltb, le-ltb}
 use Rattle.queries.specs.declared.line.Line.{Line}
 use Rattle.queries.specs.Text.{Written}
@@ -62,7 +63,8 @@ module _ (room : ℕ) (l : Line) (text input : List ℕ) (from end : ℕ) (e : L
   cut-rest : take (end - from) (drop from input) ++ drop end input ≡ drop from input
   cut-rest =
       let q : from + (end - from) ≡ end = omega (arith, e .low) in
-      ap (λ (r : List ℕ). take (end - from) (drop from input) ++ r) (sym (drop-drop (end - from) from input ∙ ap (λ (k : ℕ). drop k input) q))
+      ap (λ (r : List ℕ). take (end - from) (drop from input) ++ r)
+      (sym (drop-drop (end - from) from input ∙ ap (λ (k : ℕ). drop k input) q))
       ∙ take-append-drop (end - from) (drop from input)
 
   cut-size : length (take (end - from) (drop from input)) ≡ end - from
@@ -72,11 +74,13 @@ module _ (room : ℕ) (l : Line) (text input : List ℕ) (from end : ℕ) (e : L
       ≡ moreUsed (end - from) (servedPart room (fedBytes l (take (end - from) (drop from input))) text (drop end input))
   to-newline =
       ap (servedPart room l text) (sym cut-rest) ∙ served-fed room l text (take (end - from) (drop from input)) (drop end input) none
-      ∙ used-same (length (take (end - from) (drop from input))) (end - from) (servedPart room (fedBytes l (take (end - from) (drop from input))) text (drop end input)) cut-size
+      ∙ used-same (length (take (end - from) (drop from input))) (end - from)
+      (servedPart room (fedBytes l (take (end - from) (drop from input))) text (drop end input)) cut-size
     where
       none : (i : ℕ) → i < length (take (end - from) (drop from input)) → getD (take (end - from) (drop from input)) i 0 ≡ 10 → ⊥
       none i h q =
-          e .none (from + i) (omega arith) (omega (arith, cut-size)) (sym (getD-drop from input i 0) ∙ sym (getD-take (end - from) (drop from input) i 0 (omega (arith, cut-size))) ∙ q)
+          e .none (from + i) (omega arith) (omega (arith, cut-size))
+          (sym (getD-drop from input i 0) ∙ sym (getD-take (end - from) (drop from input) i 0 (omega (arith, cut-size))) ∙ q)
 
 -- at the end of the input, before a newline without room, and past one with room
 pub served-end : (room : ℕ) (l : Line) (text input : List ℕ) (end : ℕ) → end ≡ length input
@@ -92,7 +96,8 @@ module _ (room : ℕ) (l : Line) (text input : List ℕ) (end : ℕ) (h : end < 
   unfolding servedPart
   served-full f = rw (at-newline, lt-ltb room (length text + 64) f)
 
-  pub served-next : length text + 64 ≤ room → servedPart room l text (drop end input) ≡ oneMoreUsed (servedPart room startLine (text ++ answerOf l) (drop (end + 1) input))
+  pub served-next : length text + 64 ≤ room
+      → servedPart room l text (drop end input) ≡ oneMoreUsed (servedPart room startLine (text ++ answerOf l) (drop (end + 1) input))
   unfolding servedPart
   served-next f = rw (at-newline, le-ltb room (length text + 64) f, add-one)
 
@@ -120,12 +125,16 @@ pub record Going (input before : List ℕ) (start : Line) (out : List ℕ) (line
   pub fits : count ≤ length before
   pub size : length out ≡ length before
   pub kept : drop count out ≡ drop count before
-  pub served : servedPart (length before) start [] input ≡ moreUsed from (servedPart (length before) line (take count out) (drop from input))
+  pub served : servedPart (length before) start [] input
+      ≡ moreUsed from (servedPart (length before) line (take count out) (drop from input))
 
 pub going-start : (input before : List ℕ) (start : Line) → Going input before start before start 0 0
-going-start input before start = record { place = omega arith; fits = omega arith; size = refl; kept = refl; served = used-none (servedPart (length before) start [] input) }
+going-start input before start =
+    let none = used-none (servedPart (length before) start [] input) in
+    record { place = omega arith; fits = omega arith; size = refl; kept = refl; served = none }
 
-module _ (input before : List ℕ) (start : Line) (out : List ℕ) (line : Line) (count from end : ℕ) (g : Going input before start out line count from)
+module _ (input before : List ℕ) (start : Line) (out : List ℕ) (line : Line) (count from end : ℕ)
+    (g : Going input before start out line count from)
     (e : LineEnd input from end) (fed : Line) (ef : fed ≡ fedBytes line (take (end - from) (drop from input))) where
   standing : length (take count out) ≡ count
   standing = length-take-le count out (omega (arith, g .fits, g .size))
@@ -151,17 +160,21 @@ module _ (input before : List ℕ) (start : Line) (out : List ℕ) (line : Line)
     whole = sym (take-append-drop count out) ∙ rw (standing, g .kept);
   })
 
-  pub done-end : end ≡ length input → ServedAs (servedPart (length before) start [] input) input before out (record { line = fed; used = end; count = count })
+  pub done-end : end ≡ length input
+      → ServedAs (servedPart (length before) start [] input) input before out (record { line = fed; used = end; count = count })
   done-end h = done (served-end (length before) fed (take count out) input end h)
 
   module _ (n : (end ≡ length input) → ⊥) where
     inside : end < length input
     inside = omega (arith, e .high)
 
-    pub done-full : length out < count + 64 → ServedAs (servedPart (length before) start [] input) input before out (record { line = fed; used = end; count = count })
-    done-full h = done (served-full (length before) fed (take count out) input end inside (e .newline inside) (omega (arith, standing, g .size)))
+    pub done-full : length out < count + 64
+        → ServedAs (servedPart (length before) start [] input) input before out (record { line = fed; used = end; count = count })
+    done-full h =
+        done (served-full (length before) fed (take count out) input end inside (e .newline inside) (omega (arith, standing, g .size)))
 
-    pub going-on : count + 64 ≤ length out → (space text out′ : List ℕ) (k : ℕ) (next : Line) → Written (answerOf fed) space text k → out′ ≡ paste out count text k
+    pub going-on : count + 64 ≤ length out → (space text out′ : List ℕ) (k : ℕ) (next : Line) → Written (answerOf fed) space text k
+        → out′ ≡ paste out count text k
         → next ≡ startLine → Going input before start out′ next (count + k) (end + 1)
     going-on h space text out′ k next w p s =
         let room : count + k ≤ length out = omega (arith, w .fits) in
@@ -169,8 +182,12 @@ module _ (input before : List ℕ) (start : Line) (out : List ℕ) (line : Line)
           place = omega (arith, inside);
           fits = omega (arith, g .size);
           size = appended-length space out out′ text (answerOf fed) count k w p room ∙ g .size;
-          kept = appended-drop space out out′ text (answerOf fed) count k w p room ∙ sym (drop-drop k count out) ∙ ap (drop k) (g .kept) ∙ drop-drop k count before;
+          kept =
+              appended-drop space out out′ text (answerOf fed) count k w p room ∙ sym (drop-drop k count out) ∙ ap (drop k) (g .kept)
+              ∙ drop-drop k count before;
           served =
-              further ∙ ap (moreUsed end) (served-next (length before) fed (take count out) input end inside (e .newline inside) (omega (arith, standing, g .size)))
-              ∙ then-one end (servedPart (length before) startLine (take count out ++ answerOf fed) (drop (end + 1) input)) ∙ rw (s, appended-take space out out′ text (answerOf fed) count k w p room);
+              further ∙ ap (moreUsed end)
+              (served-next (length before) fed (take count out) input end inside (e .newline inside) (omega (arith, standing, g .size)))
+              ∙ then-one end (servedPart (length before) startLine (take count out ++ answerOf fed) (drop (end + 1) input))
+              ∙ rw (s, appended-take space out out′ text (answerOf fed) count k w p room);
         }

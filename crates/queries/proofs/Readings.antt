@@ -99,7 +99,8 @@ empty-cons : (f : List ℕ) (fs : List (List ℕ)) → isNone fs ≡ false → l
 empty-cons f [] e = absurd (clash e)
 empty-cons f (g ∷ fs) e = refl
 
-bad-cons : (j : ℕ) (f : List ℕ) (fs : List (List ℕ)) → isNone fs ≡ false → badSoFar j (f ∷ fs) ≡ cond (isNumber f) (badSoFar (suc j) fs) (suc j)
+bad-cons : (j : ℕ) (f : List ℕ) (fs : List (List ℕ)) → isNone fs ≡ false
+    → badSoFar j (f ∷ fs) ≡ cond (isNumber f) (badSoFar (suc j) fs) (suc j)
 bad-cons j f [] e = absurd (clash e)
 bad-cons j f (g ∷ fs) e = refl
 
@@ -121,12 +122,15 @@ bad-new j [] = refl
 bad-new j ([] ∷ []) = sym (add-one j)
 bad-new j ((b ∷ f) ∷ []) = refl
 bad-new j (f ∷ g ∷ fs) =
-    bad-cons j f ((g ∷ fs) ++ ([] ∷ [])) (new-some (g ∷ fs)) ∙ go (isNumber f) (lastEmpty (g ∷ fs)) (bad-new (suc j) (g ∷ fs)) (omega arith)
+    bad-cons j f ((g ∷ fs) ++ ([] ∷ [])) (new-some (g ∷ fs))
+    ∙ go (isNumber f) (lastEmpty (g ∷ fs)) (bad-new (suc j) (g ∷ fs)) (omega arith)
   where
-    go : (s e : Bool) → badSoFar (suc j) ((g ∷ fs) ++ ([] ∷ [])) ≡ cond e (orElse (badSoFar (suc j) (g ∷ fs)) (suc j + length (g ∷ fs))) (badSoFar (suc j) (g ∷ fs))
+    go : (s e : Bool) → badSoFar (suc j) ((g ∷ fs) ++ ([] ∷ []))
+        ≡ cond e (orElse (badSoFar (suc j) (g ∷ fs)) (suc j + length (g ∷ fs))) (badSoFar (suc j) (g ∷ fs))
         → suc j + length (g ∷ fs) ≡ j + length (f ∷ g ∷ fs)
         → cond s (badSoFar (suc j) ((g ∷ fs) ++ ([] ∷ []))) (suc j)
-        ≡ cond e (orElse (cond s (badSoFar (suc j) (g ∷ fs)) (suc j)) (j + length (f ∷ g ∷ fs))) (cond s (badSoFar (suc j) (g ∷ fs)) (suc j))
+        ≡ cond e (orElse (cond s (badSoFar (suc j) (g ∷ fs)) (suc j)) (j + length (f ∷ g ∷ fs)))
+        (cond s (badSoFar (suc j) (g ∷ fs)) (suc j))
     go true e r h = rw (← h) r
     go false true r h = refl
     go false false r h = refl
@@ -151,7 +155,8 @@ module _ (b : ℕ) where
   bad-digit e j f (g ∷ fs) =
       bad-cons j f (onLast b (g ∷ fs)) (last-some b g fs) ∙ ap (λ (n : ℕ). cond (isNumber f) n (suc j)) (bad-digit e (suc j) g fs)
 
-  bad-other : isDigit b ≡ false → (j : ℕ) (f : List ℕ) (fs : List (List ℕ)) → badSoFar j (onLast b (f ∷ fs)) ≡ orElse (badSoFar j (f ∷ fs)) (j + length (f ∷ fs))
+  bad-other : isDigit b ≡ false → (j : ℕ) (f : List ℕ) (fs : List (List ℕ))
+      → badSoFar j (onLast b (f ∷ fs)) ≡ orElse (badSoFar j (f ∷ fs)) (j + length (f ∷ fs))
   bad-other e j f [] = ap (λ (t : Bool). cond t 0 (suc j)) (digits-more f b false e) ∙ go (allDigits f)
     where
       go : (t : Bool) → cond (t && false) 0 (suc j) ≡ orElse (cond t 0 (suc j)) (j + 1)
@@ -162,7 +167,8 @@ module _ (b : ℕ) where
     where
       go : (s : Bool) → badSoFar (suc j) (onLast b (g ∷ fs)) ≡ orElse (badSoFar (suc j) (g ∷ fs)) (suc j + length (g ∷ fs))
           → suc j + length (g ∷ fs) ≡ j + length (f ∷ g ∷ fs)
-          → cond s (badSoFar (suc j) (onLast b (g ∷ fs))) (suc j) ≡ orElse (cond s (badSoFar (suc j) (g ∷ fs)) (suc j)) (j + length (f ∷ g ∷ fs))
+          → cond s (badSoFar (suc j) (onLast b (g ∷ fs))) (suc j)
+          ≡ orElse (cond s (badSoFar (suc j) (g ∷ fs)) (suc j)) (j + length (f ∷ g ∷ fs))
       go true r h = rw (← h) r
       go false r h = refl
 
@@ -177,7 +183,8 @@ reads-space : (w : List ℕ) (fs : List (List ℕ)) → length fs < 2 ^ 64 - 1 �
 unfolding ended
 reads-space w fs h =
     rw (value-new fs, empty-new fs)
-    (plain-space (reading w fs) 32 (length (fs ++ ([] ∷ []))) (badSoFar 0 (fs ++ ([] ∷ []))) refl (length-append fs ([] ∷ []) ∙ one-more (length fs) h) (bad-new 0 fs ∙ rw zero-add))
+    (plain-space (reading w fs) 32 (length (fs ++ ([] ∷ []))) (badSoFar 0 (fs ++ ([] ∷ []))) refl
+    (length-append fs ([] ∷ []) ∙ one-more (length fs) h) (bad-new 0 fs ∙ rw zero-add))
 
 module _ (w : List ℕ) (b : ℕ) (n : b ≡ 32 → ⊥) where
   reads-letter : reading (w ++ (b ∷ [])) [] ≡ plainRead (reading w []) b
@@ -187,7 +194,14 @@ module _ (w : List ℕ) (b : ℕ) (n : b ≡ 32 → ⊥) where
   reads-field f fs = rw (length-last b f fs, empty-last b f fs) (go (isDigit b) refl)
     where
       go : (t : Bool) → isDigit b ≡ t
-          → record { word = wordCode 1 w; count = length (f ∷ fs); value = lastValue (onLast b (f ∷ fs)); bad = badSoFar 0 (onLast b (f ∷ fs)); empty = false; held = false }
+          → record {
+            word = wordCode 1 w;
+            count = length (f ∷ fs);
+            value = lastValue (onLast b (f ∷ fs));
+            bad = badSoFar 0 (onLast b (f ∷ fs));
+            empty = false;
+            held = false;
+          }
           ≡ plainRead (reading w (f ∷ fs)) b
       go true e = rw (bad-digit b e 0 f fs)
           (plain-digit (reading w (f ∷ fs)) b (lastValue (onLast b (f ∷ fs))) n (some-fields f fs) e (value-last b f fs ∙ rw e))

@@ -28,26 +28,30 @@ unfolding answers
 answers-byte l b bs e = rw e
 
 -- what a part answers, and then all that is left of an input, is what the input answers
+abbrev then : Run → List ℕ → List ℕ → List ℕ
+then r input behind = r .text ++ answers (r .line) (drop (r .used) input ++ behind)
+
 pub part-keeps : (room : ℕ) (l : Line) (text input behind : List ℕ)
-    → servedPart room l text input .text ++ answers (servedPart room l text input .line) (drop (servedPart room l text input .used) input ++ behind)
-    ≡ text ++ answers l (input ++ behind)
+    → then (servedPart room l text input) input behind ≡ text ++ answers l (input ++ behind)
 unfolding servedPart
 part-keeps room l text [] behind = refl
 part-keeps room l text (b ∷ bs) behind =
-    go (eqb b 10) (ltb room (length text + 64)) refl (part-keeps room startLine (text ++ answerOf l) bs behind) (part-keeps room (fedByte l b) text bs behind)
+    go (eqb b 10) (ltb room (length text + 64)) refl (part-keeps room startLine (text ++ answerOf l) bs behind)
+    (part-keeps room (fedByte l b) text bs behind)
   where
     next : Bool → Bool → Run
     next s t =
-        cond s (cond t (record { line = l; text = text; used = 0 }) (oneMoreUsed (servedPart room startLine (text ++ answerOf l) bs))) (oneMoreUsed (servedPart room (fedByte l b) text bs))
+        cond s (cond t (record { line = l; text = text; used = 0 }) (oneMoreUsed (servedPart room startLine (text ++ answerOf l) bs)))
+        (oneMoreUsed (servedPart room (fedByte l b) text bs))
 
     go : (s t : Bool) → eqb b 10 ≡ s
-        → servedPart room startLine (text ++ answerOf l) bs .text ++ answers (servedPart room startLine (text ++ answerOf l) bs .line) (drop (servedPart room startLine (text ++ answerOf l) bs .used) bs ++ behind)
-        ≡ (text ++ answerOf l) ++ answers startLine (bs ++ behind)
-        → servedPart room (fedByte l b) text bs .text ++ answers (servedPart room (fedByte l b) text bs .line) (drop (servedPart room (fedByte l b) text bs .used) bs ++ behind)
-        ≡ text ++ answers (fedByte l b) (bs ++ behind)
-        → next s t .text ++ answers (next s t .line) (drop (next s t .used) (b ∷ bs) ++ behind) ≡ text ++ answers l ((b ∷ bs) ++ behind)
+        → then (servedPart room startLine (text ++ answerOf l) bs) bs behind ≡ (text ++ answerOf l) ++ answers startLine (bs ++ behind)
+        → then (servedPart room (fedByte l b) text bs) bs behind ≡ text ++ answers (fedByte l b) (bs ++ behind)
+        → then (next s t) (b ∷ bs) behind ≡ text ++ answers l ((b ∷ bs) ++ behind)
     go true true e p q = refl
-    go true false e p q = p ∙ append-assoc text (answerOf l) (answers startLine (bs ++ behind)) ∙ ap (λ (x : List ℕ). text ++ x) (sym (answers-newline l b (bs ++ behind) e))
+    go true false e p q =
+        p ∙ append-assoc text (answerOf l) (answers startLine (bs ++ behind))
+        ∙ ap (λ (x : List ℕ). text ++ x) (sym (answers-newline l b (bs ++ behind) e))
     go false t e p q = q ∙ ap (λ (x : List ℕ). text ++ x) (sym (answers-byte l b (bs ++ behind) e))
 
 -- where there is room for an answer, the first byte is used
@@ -56,10 +60,12 @@ unfolding servedPart
 first-used room l [] some-room some-left = omega arith
 first-used room l (b ∷ bs) some-room some-left = rw (le-ltb room 64 some-room) (go (eqb b 10))
   where
-    go : (s : Bool) → 1 ≤ cond s (oneMoreUsed (servedPart room startLine (answerOf l) bs)) (oneMoreUsed (servedPart room (fedByte l b) [] bs)) .used
+    go : (s : Bool)
+        → 1 ≤ cond s (oneMoreUsed (servedPart room startLine (answerOf l) bs)) (oneMoreUsed (servedPart room (fedByte l b) [] bs)) .used
     go true = omega arith
     go false = omega arith
 
-pub some-used : (l : Line) (input before after : List ℕ) (r : Served) → ServedAs (servedPart (length before) l [] input) input before after r
+pub some-used : (l : Line) (input before after : List ℕ) (r : Served)
+    → ServedAs (servedPart (length before) l [] input) input before after r
     → 64 ≤ length before → 1 ≤ length input → 1 ≤ r .used
 some-used l input before after r s some-room some-left = omega (arith, s .used-is, first-used (length before) l input some-room some-left)

@@ -13,7 +13,8 @@ use borrow.Author.Tests.{leb-true, eq-eqb, ne-eqb}
 use Rattle.model.specs.Search.{orElse}
 use Rattle.queries.specs.declared.reading.Reading.{Reading}
 use Rattle.queries.specs.declared.line.Line.{Line}
-use Rattle.queries.specs.Reading.{lettered, figured, oneMore, noDigits, returnRead, plainRead, released, byteRead, oddKept, evenKept, fedByte, fedBytes}
+use Rattle.queries.specs.Reading.{lettered, figured, oneMore, noDigits, returnRead, plainRead, released, byteRead}
+use Rattle.queries.specs.Reading.{oddKept, evenKept, fedByte, fedBytes}
 use Rattle.queries.specs.Meaning.{isDigit}
 
 pub digit-bounds : (b : ℕ) → isDigit b ≡ true → (48 ≤ b) × (b ≤ 57)

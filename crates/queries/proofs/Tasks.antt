@@ -57,7 +57,8 @@ part-same fs array t m h a size room count at =
     sizes : length (take m (drop a array)) ≡ length (everyOther t (drop h (values fs)))
     sizes = omega (arith, short, every-length t (drop h (values fs)), length-drop h (values fs), length-map fs (capped 0))
 
-    elements : (i : ℕ) → i < length (take m (drop a array)) → getD (take m (drop a array)) i 0 ≡ getD (everyOther t (drop h (values fs))) i 0
+    elements : (i : ℕ) → i < length (take m (drop a array))
+        → getD (take m (drop a array)) i 0 ≡ getD (everyOther t (drop h (values fs))) i 0
     elements i l =
         let k : i < m = omega (arith, short) in
         getD-take m (drop a array) i 0 k ∙ getD-drop a array i 0 ∙ at i k
@@ -103,7 +104,8 @@ module _ (ps es ps′ es′ : List ℕ) (X X′ : Reply) where
   both-many : 16 < length ps → 16 < length ps′ → tasksRows ps es X ≡ tasksRows ps′ es′ X′
   both-many h h′ = rows-30 ps es X (too-many ps es h) ∙ sym (rows-30 ps′ es′ X′ (too-many ps′ es′ h′))
 
-many-reply : (w : Word) (a b c : ℕ) (ps es ps′ es′ : List ℕ) → 16 < length ps → 16 < length ps′ → replyTo w a b c ps es ≡ replyTo w a b c ps′ es′
+many-reply : (w : Word) (a b c : ℕ) (ps es ps′ es′ : List ℕ) → 16 < length ps → 16 < length ps′
+    → replyTo w a b c ps es ≡ replyTo w a b c ps′ es′
 unfolding demandReply checkReply leastReply bestReply
 many-reply Supply a b c ps es ps′ es′ h h′ = refl
 many-reply Demand a b c ps es ps′ es′ h h′ = both-many ps es ps′ es′ _ _ h h′
@@ -125,7 +127,8 @@ module _ (fs : List (List ℕ)) (odd even : List ℕ) (k : Kept fs odd even) whe
   long-two h = rw (length-take-le (periodsOf (length fs - 2)) (drop 1 odd) (omega (arith, length-drop 1 odd, k .odd-size))) (omega arith)
 
   long-one : 34 < length fs - 1 → 16 < length (periods 1 (length fs - 1) odd even)
-  long-one h = rw (length-take-le (periodsOf (length fs - 1)) (drop 1 even) (omega (arith, length-drop 1 even, k .even-size))) (omega arith)
+  long-one h =
+      rw (length-take-le (periodsOf (length fs - 1)) (drop 1 even) (omega (arith, length-drop 1 even, k .even-size))) (omega arith)
 
   long-all : (h : ℕ) → 34 < length fs - h → 16 < length (everyOther true (drop h (values fs)))
   long-all h l = omega (arith, every-length true (drop h (values fs)), length-drop h (values fs), length-map fs (capped 0))

@@ -65,7 +65,8 @@ injective [] (b ∷ v) bu bv h e = absurd (omega (arith, code-some b v))
 injective (a ∷ u) [] bu bv h e = absurd (omega (arith, code-some a u))
 injective (a ∷ u) (b ∷ v) bu bv h e = go (small-or-large (code u)) (small-or-large (code v)) (injective u v (bu .1) (bv .1))
   where
-    go : (code u < 2 ^ 56) ⊎ (2 ^ 56 ≤ code u) → (code v < 2 ^ 56) ⊎ (2 ^ 56 ≤ code v) → (code v < 2 ^ 56 → code u ≡ code v → u ≡ v) → a ∷ u ≡ b ∷ v
+    go : (code u < 2 ^ 56) ⊎ (2 ^ 56 ≤ code u) → (code v < 2 ^ 56) ⊎ (2 ^ 56 ≤ code v) → (code v < 2 ^ 56 → code u ≡ code v → u ≡ v)
+        → a ∷ u ≡ b ∷ v
     go (inl s) (inl s′) r =
         let p : code u * 256 + a ≡ code v * 256 + b = sym (lettered-small (code u) a s) ∙ e ∙ lettered-small (code v) b s′ in
         let q : code u ≡ code v = omega (arith, bu .0, bv .0) in
@@ -112,11 +113,16 @@ word-same w v bw bv h = go (same w v) refl
 pub spoken-same : (w : List ℕ) → Bytes w → wordOf (wordCode 1 w) ≡ spokenOf w
 unfolding wordOf spokenOf lettered
 spoken-same w bw =
-    let a : eqb (wordCode 1 w) 0x01_73_75_70_70_6c_79 ≡ same w (115 ∷ 117 ∷ 112 ∷ 112 ∷ 108 ∷ 121 ∷ []) = word-same w (115 ∷ 117 ∷ 112 ∷ 112 ∷ 108 ∷ 121 ∷ []) bw (omega arith) (omega arith) in
-    let b : eqb (wordCode 1 w) 0x01_64_65_6d_61_6e_64 ≡ same w (100 ∷ 101 ∷ 109 ∷ 97 ∷ 110 ∷ 100 ∷ []) = word-same w (100 ∷ 101 ∷ 109 ∷ 97 ∷ 110 ∷ 100 ∷ []) bw (omega arith) (omega arith) in
-    let c : eqb (wordCode 1 w) 0x01_63_68_65_63_6b ≡ same w (99 ∷ 104 ∷ 101 ∷ 99 ∷ 107 ∷ []) = word-same w (99 ∷ 104 ∷ 101 ∷ 99 ∷ 107 ∷ []) bw (omega arith) (omega arith) in
-    let d : eqb (wordCode 1 w) 0x01_6c_65_61_73_74 ≡ same w (108 ∷ 101 ∷ 97 ∷ 115 ∷ 116 ∷ []) = word-same w (108 ∷ 101 ∷ 97 ∷ 115 ∷ 116 ∷ []) bw (omega arith) (omega arith) in
-    let e : eqb (wordCode 1 w) 0x01_62_65_73_74 ≡ same w (98 ∷ 101 ∷ 115 ∷ 116 ∷ []) = word-same w (98 ∷ 101 ∷ 115 ∷ 116 ∷ []) bw (omega arith) (omega arith) in
+    let a : eqb (wordCode 1 w) 0x01_73_75_70_70_6c_79 ≡ same w (115 ∷ 117 ∷ 112 ∷ 112 ∷ 108 ∷ 121 ∷ []) =
+    word-same w (115 ∷ 117 ∷ 112 ∷ 112 ∷ 108 ∷ 121 ∷ []) bw (omega arith) (omega arith) in
+    let b : eqb (wordCode 1 w) 0x01_64_65_6d_61_6e_64 ≡ same w (100 ∷ 101 ∷ 109 ∷ 97 ∷ 110 ∷ 100 ∷ []) =
+    word-same w (100 ∷ 101 ∷ 109 ∷ 97 ∷ 110 ∷ 100 ∷ []) bw (omega arith) (omega arith) in
+    let c : eqb (wordCode 1 w) 0x01_63_68_65_63_6b ≡ same w (99 ∷ 104 ∷ 101 ∷ 99 ∷ 107 ∷ []) =
+    word-same w (99 ∷ 104 ∷ 101 ∷ 99 ∷ 107 ∷ []) bw (omega arith) (omega arith) in
+    let d : eqb (wordCode 1 w) 0x01_6c_65_61_73_74 ≡ same w (108 ∷ 101 ∷ 97 ∷ 115 ∷ 116 ∷ []) =
+    word-same w (108 ∷ 101 ∷ 97 ∷ 115 ∷ 116 ∷ []) bw (omega arith) (omega arith) in
+    let e : eqb (wordCode 1 w) 0x01_62_65_73_74 ≡ same w (98 ∷ 101 ∷ 115 ∷ 116 ∷ []) =
+    word-same w (98 ∷ 101 ∷ 115 ∷ 116 ∷ []) bw (omega arith) (omega arith) in
     rw (a, b, c, d, e)
 
 word-grows : (w : List ℕ) (n : ℕ) → 1 ≤ n → n ≤ wordCode n w
@@ -128,8 +134,13 @@ word-grows (b ∷ w) n h =
 pub not-blank : (x : ℕ) (t : List ℕ) → isBlank (wordCode 1 (untilSpace (x ∷ t))) (length (fieldsOf (x ∷ t))) ≡ false
 not-blank x t = go (eqb x 32)
   where
-    go : (s : Bool) → (eqb (wordCode 1 (cond s [] (x ∷ untilSpace t))) 1 && eqb (length (cond s (untilSpace t ∷ fieldsOf t) (fieldsOf t))) 0) ≡ false
+    go : (s : Bool)
+        → (eqb (wordCode 1 (cond s [] (x ∷ untilSpace t))) 1 && eqb (length (cond s (untilSpace t ∷ fieldsOf t) (fieldsOf t))) 0) ≡ false
     go true = ne-eqb (suc (length (fieldsOf t))) 0 (λ e. absurd (omega arith))
     go false =
         rw (ne-eqb (wordCode (lettered 1 x) (untilSpace t)) 1
-        (λ e. absurd (omega (arith, lettered-grows 1 x (omega arith), word-grows (untilSpace t) (lettered 1 x) (omega (arith, lettered-grows 1 x (omega arith)))))))
+        (λ e. absurd (omega (
+          arith,
+          lettered-grows 1 x (omega arith),
+          word-grows (untilSpace t) (lettered 1 x) (omega (arith, lettered-grows 1 x (omega arith))),
+        ))))

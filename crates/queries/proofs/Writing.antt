@@ -19,6 +19,7 @@ put-again o o₁ text at k h e =
     rw (add-one, take-suc text k 0) (rw (sets-append, m, e))
 
 -- an answer that was put whole
-pub put-answer : (a a′ : Answer) (o o′ : List ℕ) (n : ℕ) → a ≡ a′ → length o ≡ 64 → n ≤ 64 → Put o 0 (textOf a′) o′ n → Written (textOf a) o o′ n
+pub put-answer : (a a′ : Answer) (o o′ : List ℕ) (n : ℕ) → a ≡ a′ → length o ≡ 64 → n ≤ 64 → Put o 0 (textOf a′) o′ n
+    → Written (textOf a) o o′ n
 put-answer a a′ o o′ n e size fits p =
     rw e (record { count = omega (arith, p .behind); fits = fits; whole = put-over (omega arith) p })

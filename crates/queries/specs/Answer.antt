@@ -58,7 +58,9 @@ replyOf w h n odd even = replyTo w (getD odd 0 0) (getD even 1 0) (getD odd 1 0)
 
 abbrev pub wordAnswer : Spoken → Line → List ℕ
 wordAnswer Unknown l = said badWord []
-wordAnswer (Known w) l = unlessBad (firstBad (heads w) (most w) (l .reading .count) (noDigits (l .reading))) (lineOf (replyOf w (heads w) (l .reading .count - heads w) (l .odd) (l .even)))
+wordAnswer (Known w) l =
+    unlessBad (firstBad (heads w) (most w) (l .reading .count) (noDigits (l .reading)))
+    (lineOf (replyOf w (heads w) (l .reading .count - heads w) (l .odd) (l .even)))
 
 -- a line without a byte
 abbrev pub isBlank : ℕ → ℕ → Bool

@@ -96,7 +96,7 @@ returnRead r = record {
 unfoldable pub byteRead : Reading → ℕ → Reading
 byteRead r b = cond (eqb b 13) (returnRead (released r)) (plainRead (released r) b)
 
--- the numbers of the odd fields and of the even ones with that of field k, as far as it has come; field 38 and those behind it are not kept
+-- the numbers of the odd fields and of the even ones with that of field k, as far as it has come; from field 38 on none is kept
 unfoldable pub oddKept : List ℕ → ℕ → ℕ → List ℕ
 oddKept odd k value = cond (leb k 37 && eqb (k % 2) 1) (set odd (k / 2) value) odd
 

@@ -25,7 +25,8 @@ pub struct Line {
 }
 
 fn keep(odd: &mut [u32; PAIRS], even: &mut [u32; PAIRS], count: usize, value: u32)
-    ensures { λ _. ⌜ (now (odd .exit) ≡ oddKept (now (odd .entry)) count value) × (now (even .exit) ≡ evenKept (now (even .entry)) count value) ⌝ }
+    ensures { λ _. ⌜ (now (odd .exit) ≡ oddKept (now (odd .entry)) count value)
+        × (now (even .exit) ≡ evenKept (now (even .entry)) count value) ⌝ }
 {
     if LAST_KEPT < count {
         return;

@@ -1,5 +1,5 @@
--- The best share from period to period: searching the next period up to its cap, and replacing where that finds a budget, is the better of two.
--- Assumes nothing.
+-- The best share from period to period: searching the next period up to its cap, and replacing where that finds a budget, is the better
+-- of two. Assumes nothing.
 use Prim.Native.Nat.{ℕ, zero, suc, _+_, _*_, _-_, _/_, _≤_, _<_}
 use mathlib.Core.Path.{_≡_, refl, ap, sym, _∙_}
 use mathlib.Core.Bool.{Bool, true, false, cond}
@@ -54,8 +54,8 @@ cap-most s P o = go (eqb (s .budget) 0) refl
     go : (b : Bool) → eqb (s .budget) 0 ≡ b → capOf s P ≤ P
     go true e = omega (arith, cap-none s P (eqb-true _ _ e))
     go false e =
-        omega
-        (arith, cap-some s P (eqb-false _ _ e), div-le-of-le-mul (s .period) {m = s .budget * P} {n = P} (mul-le-mul-right P (o .budget-most)))
+        let most = div-le-of-le-mul (s .period) {m = s .budget * P} {n = P} (mul-le-mul-right P (o .budget-most)) in
+        omega (arith, cap-some s P (eqb-false _ _ e), most)
 
 -- up to a number at or above the least place the first one is the least place; below it there is none
 first-upto : (f : ℕ → Bool) (n m r : ℕ) → Smallest f n r → 1 ≤ r → r ≤ m → first f m ≡ r
@@ -93,7 +93,8 @@ module _ (f : ℕ → Bool) (s : Share) (P : ℕ) (o : Offered s) where
               first-upto f P (capOf s P) r i (omega arith) (omega (arith, cap-some s P m, le-div-iff-mul-le pos .1 le)) in
               rw found (replaced-some s P r n ∙ sym (better-new s (new r) n m le))
           fraction n m (inl lt) =
-              replaced-none s P _ (first-before f P (capOf s P) r i (low (below-or-from (capOf s P) r))) ∙ sym (better-old s (new r) n m lt)
+              replaced-none s P _ (first-before f P (capOf s P) r i (low (below-or-from (capOf s P) r)))
+              ∙ sym (better-old s (new r) n m lt)
             where
               low : (capOf s P < r) ⊎ (r ≤ capOf s P) → capOf s P < r
               low (inl below) = below
@@ -111,22 +112,25 @@ best-next ps es s (suc n) pos o e =
     let b : suc n + 1 - 1 ≡ suc n = omega arith in
     rw b
     (next (passes (suc n) ps es) s (suc n) o (first (passes (suc n) ps es) (suc n)) (first-smallest (passes (suc n) ps es) (suc n))
-    ∙ ap (λ (t : Share). better t (record { period = suc n; budget = first (passes (suc n) ps es) (suc n) })) (e ∙ ap (λ (k : ℕ). bestOf ps es k) a))
+    ∙ ap (λ (t : Share). better t (record { period = suc n; budget = first (passes (suc n) ps es) (suc n) }))
+    (e ∙ ap (λ (k : ℕ). bestOf ps es k) a))
 
 -- it is a share in range, or none
 best-fits : (ps es : List ℕ) (n : ℕ) → (bestOf ps es n .budget ≤ bestOf ps es n .period) × (bestOf ps es n .period ≤ n)
 unfolding bestOf leastOf better
 best-fits ps es zero = (omega arith, omega arith)
-best-fits ps es (suc n) = go (bestOf ps es n) (best-fits ps es n) (first (passes (suc n) ps es) (suc n)) (first-smallest (passes (suc n) ps es) (suc n) .most)
+best-fits ps es (suc n) =
+    go (bestOf ps es n) (best-fits ps es n) (first (passes (suc n) ps es) (suc n)) (first-smallest (passes (suc n) ps es) (suc n) .most)
   where
+    Fits : Share → Type 0
+    Fits s = (s .budget ≤ s .period) × (s .period ≤ suc n)
+
     go : (s : Share) → (s .budget ≤ s .period) × (s .period ≤ n) → (r : ℕ) → r ≤ suc n
-        → (better s (record { period = suc n; budget = r }) .budget ≤ better s (record { period = suc n; budget = r }) .period)
-        × (better s (record { period = suc n; budget = r }) .period ≤ suc n)
+        → Fits (better s (record { period = suc n; budget = r }))
     go s i r h = by (eqb r 0) (eqb (s .budget) 0) (leb (r * s .period) (s .budget * suc n))
       where
-        by : (a b c : Bool) → (cond a s (cond b (record { period = suc n; budget = r }) (cond c (record { period = suc n; budget = r }) s)) .budget
-            ≤ cond a s (cond b (record { period = suc n; budget = r }) (cond c (record { period = suc n; budget = r }) s)) .period)
-            × (cond a s (cond b (record { period = suc n; budget = r }) (cond c (record { period = suc n; budget = r }) s)) .period ≤ suc n)
+        by : (a b c : Bool)
+            → Fits (cond a s (cond b (record { period = suc n; budget = r }) (cond c (record { period = suc n; budget = r }) s)))
         by true b c = (omega (arith, i), omega (arith, i))
         by false true c = (omega arith, omega arith)
         by false false true = (omega arith, omega arith)

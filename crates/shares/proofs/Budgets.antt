@@ -35,7 +35,9 @@ module _ (P : ℕ) (ps es : List ℕ) (tasks : Tasks ps es) where
 
   -- the search from b to b
   pub one-fails : (b : ℕ) → 1 ≤ b → 0 ≡ first (λ x. leb b x && passes P ps es x) b → passes P ps es b ≡ false
-  one-fails b pos e = go (leb b b) (le-leb b b (omega arith)) (first-smallest (λ x. leb b x && passes P ps es x) b .none (sym e) b pos (omega arith))
+  one-fails b pos e =
+      go (leb b b) (le-leb b b (omega arith))
+      (first-smallest (λ x. leb b x && passes P ps es x) b .none (sym e) b pos (omega arith))
     where
       go : (t : Bool) → t ≡ true → (t && passes P ps es b) ≡ false → passes P ps es b ≡ false
       go true q h = h

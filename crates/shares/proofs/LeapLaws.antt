@@ -1,5 +1,5 @@
--- The table of leaps: one more entry, the rest of a task's entries, and that what the search reads from it passes over no length that would do.
--- Assumes nothing.
+-- The table of leaps: one more entry, the rest of a task's entries, and that what the search reads from it passes over no length that
+-- would do. Assumes nothing.
 use Prim.Native.Nat.{ℕ, zero, suc, _+_, _*_, _-_, _/_, _%_, _≤_, _<_, min, max}
 use mathlib.Core.Path.{_≡_, refl, _∙_}
 use mathlib.Core.List.{List}

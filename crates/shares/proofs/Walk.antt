@@ -1,5 +1,5 @@
--- The walk of `first_budget` over budgets, tasks and lengths: what it knows on the way, what each step keeps, and what it has found at the end.
--- It rests on the laws of supply and demand and not on their formulas. Assumes nothing.
+-- The walk of `first_budget` over budgets, tasks and lengths: what it knows on the way, what each step keeps, and what it has found at
+-- the end. It rests on the laws of supply and demand and not on their formulas. Assumes nothing.
 use Prim.Native.Nat.{ℕ, zero, suc, _+_, _-_, _≤_, _<_}
 use mathlib.Core.Path.{_≡_, sym}
 use mathlib.Core.Bool.{true, false, _&&_}
@@ -42,7 +42,8 @@ module _ (P B : ℕ) (ps es : List ℕ) (tasks : Tasks ps es) (pos : 1 ≤ B) (f
       )
 
   -- so a length t that supplies too little is left for one below which none has so many to spare
-  too-short : (t v : ℕ) → 1 ≤ t → TooShort P B ps es i t → NoneBetween ps es i t v (waitedOf P B (demandOf ps es (suc i) t)) → TooShort P B ps es i v
+  too-short : (t v : ℕ) → 1 ≤ t → TooShort P B ps es i t → NoneBetween ps es i t v (waitedOf P B (demandOf ps es (suc i) t))
+      → TooShort P B ps es i v
   too-short t v some-t short none u some-u h last =
       go (below-or-from u t) (below-or-from (supplyOf P B u) (demandOf ps es (suc i) u))
     where
@@ -186,7 +187,8 @@ module _ (ps es : List ℕ) (tasks : Tasks ps es) (P from : ℕ) (pos : 1 ≤ fr
     walk-found h most all =
         sym
         (first-at (λ b. leb from b && passes P ps es b) to b (omega (arith, w .begun)) h
-        (and-true (leb from b) (passes P ps es b) (le-leb _ _ (w .begun)) (passes-all P b ps es (λ k l. w .met (omega arith) k (omega arith))))
+        (and-true (leb from b) (passes P ps es b) (le-leb _ _ (w .begun))
+        (passes-all P b ps es (λ k l. w .met (omega arith) k (omega arith))))
         (λ x p l. none x l (below-or-from x from)))
       where
         none : (x : ℕ) → x < b → (x < from) ⊎ (from ≤ x) → (leb from x && passes P ps es x) ≡ false

@@ -5,7 +5,7 @@ use crate::rows::LONGEST;
 use crate::rows::MOST_TASKS;
 use crate::table::CELLS;
 use crate::table::LENGTHS;
-use crate::table::wide;
+use crate::table::cell_ticks;
 ghost use mathlib.Core.Path.{_≡_};
 ghost use Prim.Native.Nat.{_+_, _*_, _-_, _≤_, _<_};
 ghost use lib.ListN.{length, getD};
@@ -25,7 +25,7 @@ pub(crate) fn leap(leaps: &[u16], i: usize, d: u32, spare: u32) -> u32
     if LONGEST < spare {
         return NO_LENGTH;
     }
-    let u = wide(leaps[i * LENGTHS + spare as usize]);
+    let u = cell_ticks(leaps[i * LENGTHS + spare as usize]);
     if u < d + spare { d + spare } else { u }
 }
 
@@ -39,7 +39,8 @@ fn fill_spare(
     t: u32,
     from: u32,
 ) -> u32
-    requires { ⌜ Entering (now periods) (now costs) (now leaps) i t from × ((1 ≤ d) × (d ≡ demandOf (now periods) (now costs) (i + 1) t) × (t ≤ 2000)) ⌝ }
+    requires { ⌜ Entering (now periods) (now costs) (now leaps) i t from
+        × ((1 ≤ d) × (d ≡ demandOf (now periods) (now costs) (i + 1) t) × (t ≤ 2000)) ⌝ }
     ensures { λ r. ⌜ Entering (now (periods .entry)) (now (costs .entry)) (now (leaps .exit)) i (t + 1) r ⌝ }
 {
     let mut spare = from;
@@ -61,19 +62,22 @@ fn fill_none(periods: &[u32], costs: &[u32], leaps: &mut [u16; CELLS], i: usize,
 }
 
 fn fill_task(periods: &[u32], costs: &[u32], demands: &[u16], leaps: &mut [u16; CELLS], i: usize)
-    requires { ⌜ Tasks (now periods) (now costs) × ((i < length (now periods)) × (Filled (now periods) (now costs) (now demands) ((longest (now periods) + 1) * 16) × Leaps (now periods) (now costs) (now leaps) (i * 2001))) ⌝ }
+    requires { ⌜ Tasks (now periods) (now costs) × ((i < length (now periods))
+        × (Filled (now periods) (now costs) (now demands) ((longest (now periods) + 1) * 16)
+        × Leaps (now periods) (now costs) (now leaps) (i * 2001))) ⌝ }
     ensures { λ r. ⌜ Leaps (now (periods .entry)) (now (costs .entry)) (now (leaps .exit)) ((i + 1) * 2001) ⌝ }
 {
     let mut spare = 0;
     for t in 1..periods[i] + 1 {
-        let d = wide(demands[t as usize * MOST_TASKS + i]);
+        let d = cell_ticks(demands[t as usize * MOST_TASKS + i]);
         spare = fill_spare(periods, costs, leaps, i, d, t, spare);
     }
     fill_none(periods, costs, leaps, i, spare);
 }
 
 pub(crate) fn fill_leaps(periods: &[u32], costs: &[u32], demands: &[u16], leaps: &mut [u16; CELLS])
-    requires { ⌜ Tasks (now periods) (now costs) × (Filled (now periods) (now costs) (now demands) ((longest (now periods) + 1) * 16) × (length (now leaps) ≡ 32016)) ⌝ }
+    requires { ⌜ Tasks (now periods) (now costs)
+        × (Filled (now periods) (now costs) (now demands) ((longest (now periods) + 1) * 16) × (length (now leaps) ≡ 32016)) ⌝ }
     ensures { λ r. ⌜ Leaps (now (periods .entry)) (now (costs .entry)) (now (leaps .exit)) (length (now (periods .entry)) * 2001) ⌝ }
 {
     for i in 0..periods.len() {

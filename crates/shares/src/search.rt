@@ -4,7 +4,7 @@ use crate::answers::Share;
 use crate::curve::waited;
 use crate::leaps::leap;
 use crate::rows::MOST_TASKS;
-use crate::table::wide;
+use crate::table::cell_ticks;
 ghost use mathlib.Core.Path.{_≡_};
 ghost use mathlib.Core.Bool.{_&&_};
 ghost use lib.Dec.{leb};
@@ -40,7 +40,7 @@ pub(crate) fn first_budget(
         }
         'tasks: while i < n {
             'lengths: loop {
-                let d = wide(demands[t as usize * MOST_TASKS + i]);
+                let d = cell_ticks(demands[t as usize * MOST_TASKS + i]);
                 let spare = waited(p, b, d);
                 if d + spare <= t {
                     i += 1;

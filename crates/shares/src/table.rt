@@ -15,7 +15,7 @@ pub(crate) const LENGTHS: usize = LONGEST as usize + 1;
 pub(crate) const CELLS: usize = LENGTHS * MOST_TASKS;
 
 // A cell as a number of ticks. (The cast alone asks for the cell's bound at each place.)
-pub(crate) fn wide(cell: u16) -> u32
+pub(crate) fn cell_ticks(cell: u16) -> u32
     ensures { λ r. ⌜ r ≡ cell ⌝ }
 {
     cell as u32

@@ -51,13 +51,15 @@ put-over {o} {o′} {xs} {n} fits p = p .stored ∙ sets-eq xs o 0 (omega (arith
 
 -- the same text under another name
 pub put-as : {o o′ xs ys : List ℕ} {a b : ℕ} → xs ≡ ys → Put o a xs o′ b → Put o a ys o′ b
-put-as {o} {o′} {xs} {ys} {a} {b} e p = record { behind = p .behind ∙ ap (λ (l : List ℕ). a + length l) e; stored = p .stored ∙ ap (sets o a) e }
+put-as {o} {o′} {xs} {ys} {a} {b} e p =
+    record { behind = p .behind ∙ ap (λ (l : List ℕ). a + length l) e; stored = p .stored ∙ ap (sets o a) e }
 
 -- a byte before a text, and two
 pub put-first : (o : List ℕ) (a x : ℕ) {o′ xs : List ℕ} {b : ℕ} → Put (set o a x) (a + 1) xs o′ b → Put o a (x ∷ xs) o′ b
 put-first o a x {o′} {xs} {b} p = record { behind = omega (arith, p .behind); stored = p .stored ∙ rw add-one }
 
-pub put-letters : (o : List ℕ) (a x y : ℕ) {o′ xs : List ℕ} {b : ℕ} → Put (set (set o a x) (a + 1) y) (a + 2) xs o′ b → Put o a (x ∷ y ∷ xs) o′ b
+pub put-letters : (o : List ℕ) (a x y : ℕ) {o′ xs : List ℕ} {b : ℕ} → Put (set (set o a x) (a + 1) y) (a + 2) xs o′ b
+    → Put o a (x ∷ y ∷ xs) o′ b
 put-letters o a x y {o′} {xs} {b} p =
     let two : a + 1 + 1 ≡ a + 2 = omega arith in
     put-first o a x (put-first (set o a x) (a + 1) y (rw two p))

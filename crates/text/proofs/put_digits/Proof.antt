@@ -1,4 +1,5 @@
--- `put_digits` puts the digits from the last to the first. The invariant: putting the rest of the number gives the whole; the measure is the rest. Assumes nothing.
+-- `put_digits` puts the digits from the last to the first. The invariant: putting the rest of the number gives the whole; the measure is
+-- the rest. Assumes nothing.
 use Prim.Native.Nat.{ℕ, _+_, _^_, _<_}
 use mathlib.Core.Path.{_≡_, refl, _∙_, ap}
 use native.Mathlib.Omega.{arith}
@@ -12,7 +13,9 @@ use Rattle.text.proofs.put_digits.Statement.{statement}
 use Rattle.text.proofs.put_digits.Tie as tie
 
 abbrev Inv-loop : tie.InvT-loop
-Inv-loop out₀ at n end i₀ rest₀ out i rest = (i ≡ at + length (decimal rest)) × (rest < 2 ^ 64) × (length out ≡ length out₀) × (sets out at (decimal rest) ≡ sets out₀ at (decimal n))
+Inv-loop out₀ at n end i₀ rest₀ out i rest =
+    (i ≡ at + length (decimal rest)) × (rest < 2 ^ 64) × (length out ≡ length out₀)
+    × (sets out at (decimal rest) ≡ sets out₀ at (decimal n))
 
 abbrev μ-loop : tie.MeasureT-loop
 μ-loop out₀ at n end i₀ rest₀ out i rest = rest
@@ -36,7 +39,8 @@ add-out : tie.Need-add-out Inv-loop μ-loop
 add-out c = search needs
 
 slice-write-out : tie.Need-slice-write-out Inv-loop μ-loop
-slice-write-out c = omega (arith, figures-length 20 (c .before .loop .rest), longer (c .before .loop .rest) (c .loop-test .taken) (c .before .loop .inv .1))
+slice-write-out c =
+    let l = c .before .loop in omega (arith, figures-length 20 (l .rest), longer (l .rest) (c .loop-test .taken) (l .inv .1))
 
 loop-less : tie.Need-loop-less Inv-loop μ-loop
 loop-less c = search needs

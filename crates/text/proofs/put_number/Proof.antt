@@ -7,13 +7,15 @@ use Rattle.text.proofs.put_number.Statement.{statement}
 use Rattle.text.proofs.put_number.Tie as tie
 
 returns : tie.Need-returns
-returns c = put-nothing (c .before .before .args .out .now) (c .before .before .args .at) (c .before .before .args .n) (omega arith)
+returns c =
+    let a = c .before .before .args in put-nothing (a .out .now) (a .at) (a .n) (omega arith)
 
 sub-if2 : tie.Need-sub-if2
 sub-if2 c = search needs
 
 returns-2 : tie.Need-returns-2
-returns-2 c = put-nothing (c .before .before .before .args .out .now) (c .before .before .before .args .at) (c .before .before .before .args .n) (omega arith)
+returns-2 c =
+    let a = c .before .before .before .args in put-nothing (a .out .now) (a .at) (a .n) (omega arith)
 
 put-digits-requires : tie.Need-put-digits-requires
 put-digits-requires c κs = omega arith

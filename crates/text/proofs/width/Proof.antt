@@ -16,37 +16,53 @@ short-width-requires-2 : tie.Need-short-width-requires-2
 short-width-requires-2 c κs = search needs
 
 add-result : tie.Need-add-result
-add-result c = omega (arith, c .short-width2 .ensures, figures-length 20 (c .before .before .before .args .n / 10000))
+add-result c =
+    let s = c .before .before .before in
+    omega (arith, c .short-width2 .ensures, figures-length 20 (s .args .n / 10000))
 
 returns-2 : tie.Need-returns-2
-returns-2 c = omega (arith, c .short-width2 .ensures, longer-four (c .before .before .before .args .n) (omega arith) (c .before .before .before .fits .n .fits))
+returns-2 c =
+    let s = c .before .before .before in
+    omega (arith, c .short-width2 .ensures, longer-four (s .args .n) (omega arith) (s .fits .n .fits))
 
 short-width-requires-3 : tie.Need-short-width-requires-3
 short-width-requires-3 c κs = search needs
 
 add-result-2 : tie.Need-add-result-2
-add-result-2 c = omega (arith, c .short-width3 .ensures, figures-length 20 (c .before .before .before .before .args .n / 100000000))
+add-result-2 c =
+    let s = c .before .before .before .before in
+    omega (arith, c .short-width3 .ensures, figures-length 20 (s .args .n / 100000000))
 
 returns-3 : tie.Need-returns-3
-returns-3 c = omega (arith, c .short-width3 .ensures, longer-eight (c .before .before .before .before .args .n) (omega arith) (c .before .before .before .before .fits .n .fits))
+returns-3 c =
+    let s = c .before .before .before .before in
+    omega (arith, c .short-width3 .ensures, longer-eight (s .args .n) (omega arith) (s .fits .n .fits))
 
 short-width-requires-4 : tie.Need-short-width-requires-4
 short-width-requires-4 c κs = search needs
 
 add-result-3 : tie.Need-add-result-3
-add-result-3 c = omega (arith, c .short-width4 .ensures, figures-length 20 (c .before .before .before .before .before .args .n / 1000000000000))
+add-result-3 c =
+    let s = c .before .before .before .before .before in
+    omega (arith, c .short-width4 .ensures, figures-length 20 (s .args .n / 1000000000000))
 
 returns-4 : tie.Need-returns-4
-returns-4 c = omega (arith, c .short-width4 .ensures, longer-twelve (c .before .before .before .before .before .args .n) (omega arith) (c .before .before .before .before .before .fits .n .fits))
+returns-4 c =
+    let s = c .before .before .before .before .before in
+    omega (arith, c .short-width4 .ensures, longer-twelve (s .args .n) (omega arith) (s .fits .n .fits))
 
 short-width-requires-5 : tie.Need-short-width-requires-5
 short-width-requires-5 c κs = search needs
 
 add-result-4 : tie.Need-add-result-4
-add-result-4 c = omega (arith, c .short-width5 .ensures, figures-length 20 (c .before .before .before .before .before .args .n / 10000000000000000))
+add-result-4 c =
+    let s = c .before .before .before .before .before in
+    omega (arith, c .short-width5 .ensures, figures-length 20 (s .args .n / 10000000000000000))
 
 returns-5 : tie.Need-returns-5
-returns-5 c = omega (arith, c .short-width5 .ensures, longer-sixteen (c .before .before .before .before .before .args .n) (omega arith) (c .before .before .before .before .before .fits .n .fits))
+returns-5 c =
+    let s = c .before .before .before .before .before in
+    omega (arith, c .short-width5 .ensures, longer-sixteen (s .args .n) (omega arith) (s .fits .n .fits))
 
 pub width-spec : {M : Type 1} → statement M
 width-spec =

@@ -47,7 +47,12 @@ put-to-shares-requires : tie.Need-put-to-shares-requires
 put-to-shares-requires c κs = search needs
 
 returns : tie.Need-returns
-returns c = behind-two (c .before .before .before .before .before .before .before .before .before .before .before .args .word) (c .before .before .before .before .before .before .before .before .before .before .before .args .heads) (c .before .before .before .before .before .before .before .before .before .before .before .args .n) _ _ (c .before .before .before .before .before .before .before .before .before .before .before .args .odd .now) (c .before .before .before .before .before .before .before .before .before .before .before .args .even .now) _ (c .before .before .before .before .before .before .before .before .periods-of .ensures .0) (c .before .before .before .before .before .before .costs-of .ensures .0) (c .before .before .before .before .before .before .before .if1 .taken) (c .put-to-shares .ensures)
+returns c =
+    let counted = c .before .before .before .before .before .before in
+    let periods = counted .before .before in
+    let a = periods .before .before .before .args in
+    behind-two (a .word) (a .heads) (a .n) _ _ (a .odd .now) (a .even .now) _ (periods .periods-of .ensures .0)
+    (counted .costs-of .ensures .0) (counted .before .if1 .taken) (c .put-to-shares .ensures)
 
 costs-of-requires-2 : tie.Need-costs-of-requires-2
 costs-of-requires-2 c κs = search needs
@@ -86,7 +91,12 @@ put-to-shares-requires-2 : tie.Need-put-to-shares-requires-2
 put-to-shares-requires-2 c κs = search needs
 
 returns-2 : tie.Need-returns-2
-returns-2 c = behind-one (c .before .before .before .before .before .before .before .before .before .before .before .args .word) (c .before .before .before .before .before .before .before .before .before .before .before .args .heads) (c .before .before .before .before .before .before .before .before .before .before .before .args .n) _ _ (c .before .before .before .before .before .before .before .before .before .before .before .args .odd .now) (c .before .before .before .before .before .before .before .before .before .before .before .args .even .now) _ (c .before .before .before .before .before .before .before .before .periods-of .ensures .0) (c .before .before .before .before .before .before .costs-of2 .ensures .0) (c .before .before .before .before .before .before .before .if1 .left) (c .put-to-shares2 .ensures)
+returns-2 c =
+    let counted = c .before .before .before .before .before .before in
+    let periods = counted .before .before in
+    let a = periods .before .before .before .args in
+    behind-one (a .word) (a .heads) (a .n) _ _ (a .odd .now) (a .even .now) _ (periods .periods-of .ensures .0)
+    (counted .costs-of2 .ensures .0) (counted .before .if1 .left) (c .put-to-shares2 .ensures)
 
 pub with-tasks-spec : {M : Type 1} → statement M
 with-tasks-spec =

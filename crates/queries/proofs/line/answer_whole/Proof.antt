@@ -17,8 +17,10 @@ answer-requires c κs = search needs
 
 returns : tie.Need-returns
 returns c =
-    whole-means (c .before .before .before .before .before .args .line .now) _ _ _ _ _ (c .before .before .before .start .ensures) (c .before .before .fed .ensures)
-    (bytes-all (c .before .before .before .before .before .args .line .now) (λ i. c .before .before .before .before .shared-slice-known .given i .fits)) (omega (arith, c .before .before .before .before .before .good)) (c .answer .ensures)
+    let known = c .before .before .before .before in
+    let line = known .before .args .line .now in
+    whole-means line _ _ _ _ _ (c .before .before .before .start .ensures) (c .before .before .fed .ensures)
+    (bytes-all line (λ i. known .shared-slice-known .given i .fits)) (omega (arith, known .before .good)) (c .answer .ensures)
 
 pub answer-whole-spec : {M : Type 1} → statement M
 answer-whole-spec = tie.close (tie.spec start-requires fed-requires answer-requires returns)

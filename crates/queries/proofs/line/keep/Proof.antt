@@ -23,11 +23,17 @@ element-write-even c = search needs
 
 returns-2 : tie.Need-returns-2
 unfolding oddKept evenKept
-returns-2 c = (simp (le-leb _ _ (c .before .if1 .left), eq-eqb _ _ (c .if2 .taken)), simp (le-leb _ _ (c .before .if1 .left), eq-eqb _ _ (c .if2 .taken)))
+returns-2 c =
+    let in-reach = le-leb _ _ (c .before .if1 .left) in
+    let parity = eq-eqb _ _ (c .if2 .taken) in
+    (simp (in-reach, parity), simp (in-reach, parity))
 
 returns-3 : tie.Need-returns-3
 unfolding oddKept evenKept
-returns-3 c = (simp (le-leb _ _ (c .before .if1 .left), ne-eqb _ _ (c .if2 .left)), simp (le-leb _ _ (c .before .if1 .left), ne-eqb _ _ (c .if2 .left)))
+returns-3 c =
+    let in-reach = le-leb _ _ (c .before .if1 .left) in
+    let parity = ne-eqb _ _ (c .if2 .left) in
+    (simp (in-reach, parity), simp (in-reach, parity))
 
 pub keep-spec : {M : Type 1} → statement M
 keep-spec =

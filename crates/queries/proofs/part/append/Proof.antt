@@ -25,7 +25,10 @@ add-out : tie.Need-add-out Inv-loop μ-loop
 add-out c = search needs
 
 slice-write-out : tie.Need-slice-write-out Inv-loop μ-loop
-slice-write-out c = omega (arith, ap length (c .before .before .loop .inv .1) ∙ length-paste (c .before .before .before .before .args .out .now) (c .before .before .before .before .args .at) (c .before .before .before .before .args .text .now) (c .before .before .loop .k) (omega arith) (omega arith))
+slice-write-out c =
+    let a = c .before .before .before .before .args in
+    let l = c .before .before .loop in
+    omega (arith, ap length (l .inv .1) ∙ length-paste (a .out .now) (a .at) (a .text .now) (l .k) (omega arith) (omega arith))
 
 add-k : tie.Need-add-k Inv-loop μ-loop
 add-k c = search needs
@@ -34,15 +37,23 @@ loop-less : tie.Need-loop-less Inv-loop μ-loop
 loop-less c = search needs
 
 loop-again : tie.Need-loop-again Inv-loop μ-loop
-loop-again c = (omega arith, paste-again (c .before .before .before .before .args .out .now) _ (c .before .before .before .before .args .text .now) (c .before .before .before .before .args .at) (c .before .before .loop .k) (omega arith) (omega arith) (c .before .before .loop .inv .1))
+loop-again c =
+    let a = c .before .before .before .before .args in
+    let l = c .before .before .loop in
+    (omega arith, paste-again (a .out .now) _ (a .text .now) (a .at) (l .k) (omega arith) (omega arith) (l .inv .1))
 
 same-length : tie.Need-same-length Inv-loop μ-loop
-same-length c = ap length (c .before .loop .inv .1) ∙ length-paste (c .before .before .before .args .out .now) (c .before .before .before .args .at) (c .before .before .before .args .text .now) (c .before .loop .k) (omega arith) (omega arith)
+same-length c =
+    let a = c .before .before .before .args in
+    let l = c .before .loop in
+    ap length (l .inv .1) ∙ length-paste (a .out .now) (a .at) (a .text .now) (l .k) (omega arith) (omega arith)
 
 returns : tie.Need-returns Inv-loop μ-loop
 returns c =
-    let q : c .before .loop .k ≡ c .before .before .before .args .n = omega arith in
-    c .before .loop .inv .1 ∙ ap (λ j. paste (c .before .before .before .args .out .now) (c .before .before .before .args .at) (c .before .before .before .args .text .now) j) q
+    let a = c .before .before .before .args in
+    let l = c .before .loop in
+    let q : l .k ≡ a .n = omega arith in
+    l .inv .1 ∙ ap (λ j. paste (a .out .now) (a .at) (a .text .now) j) q
 
 pub append-spec : {M : Type 1} → statement M
 append-spec =

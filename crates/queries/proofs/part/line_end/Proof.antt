@@ -21,7 +21,8 @@ shared-slice-read-if1 : tie.Need-shared-slice-read-if1 Inv-loop μ-loop
 shared-slice-read-if1 c = search needs
 
 returns : tie.Need-returns Inv-loop μ-loop
-returns c = record { low = omega arith; high = omega arith; newline = λ h. c .if1 .taken; none = c .before .before .before .loop .inv .1 .1 }
+returns c =
+    record { low = omega arith; high = omega arith; newline = λ h. c .if1 .taken; none = c .before .before .before .loop .inv .1 .1 }
 
 add-k : tie.Need-add-k Inv-loop μ-loop
 add-k c = search needs
@@ -30,7 +31,10 @@ loop-less : tie.Need-loop-less Inv-loop μ-loop
 loop-less c = search needs
 
 loop-again : tie.Need-loop-again Inv-loop μ-loop
-loop-again c = (omega arith, (omega arith, none-more (c .before .before .before .before .args .input .now) (c .before .before .before .before .args .from) (c .before .before .before .loop .k) (c .before .before .before .loop .inv .1 .1) (c .if1 .left)))
+loop-again c =
+    let a = c .before .before .before .before .args in
+    let l = c .before .before .before .loop in
+    (omega arith, (omega arith, none-more (a .input .now) (a .from) (l .k) (l .inv .1 .1) (c .if1 .left)))
 
 returns-2 : tie.Need-returns-2 Inv-loop μ-loop
 returns-2 c = record { low = omega arith; high = omega arith; newline = λ h. absurd (omega arith); none = c .before .loop .inv .1 .1 }

@@ -13,6 +13,13 @@ Inv-loop input out₀ line₀ count₀ from₀ out line count from = Going input
 abbrev μ-loop : tie.MeasureT-loop
 μ-loop input out₀ line₀ count₀ from₀ out line count from = length input + 1 - from
 
+-- where an answer has room; before it, where the line's end is known
+abbrev room-for : tie.After-append Inv-loop μ-loop → tie.Else2 Inv-loop μ-loop
+room-for c = c .before .before .before .before .before
+
+abbrev ended : tie.Else2 Inv-loop μ-loop → tie.After-line-end Inv-loop μ-loop
+ended c = c .before .before .before .before
+
 loop-holds : tie.Need-loop-holds Inv-loop μ-loop
 loop-holds c = going-start _ _ _
 
@@ -35,7 +42,9 @@ same-length : tie.Need-same-length Inv-loop μ-loop
 same-length c = c .before .before .before .before .loop .inv .size
 
 returns : tie.Need-returns Inv-loop μ-loop
-returns c = done-end _ _ _ _ _ _ _ _ (c .before .before .before .before .loop .inv) (c .before .before .before .line-end .ensures) _ (c .before .fed .ensures) (c .if1 .taken)
+returns c =
+    let ended = c .before .before .before in
+    done-end _ _ _ _ _ _ _ _ (ended .before .loop .inv) (ended .line-end .ensures) _ (c .before .fed .ensures) (c .if1 .taken)
 
 add-if2 : tie.Need-add-if2 Inv-loop μ-loop
 add-if2 c = search needs
@@ -44,7 +53,11 @@ same-length-2 : tie.Need-same-length-2 Inv-loop μ-loop
 same-length-2 c = c .before .before .before .before .before .loop .inv .size
 
 returns-2 : tie.Need-returns-2 Inv-loop μ-loop
-returns-2 c = done-full _ _ _ _ _ _ _ _ (c .before .before .before .before .before .loop .inv) (c .before .before .before .before .line-end .ensures) _ (c .before .before .fed .ensures) (c .before .if1 .left) (c .if2 .taken)
+returns-2 c =
+    let fed = c .before .before in
+    let ended = fed .before .before in
+    done-full _ _ _ _ _ _ _ _ (ended .before .loop .inv) (ended .line-end .ensures) _ (fed .fed .ensures)
+    (c .before .if1 .left) (c .if2 .taken)
 
 answer-requires : tie.Need-answer-requires Inv-loop μ-loop
 answer-requires c κs = search needs
@@ -56,18 +69,28 @@ start-requires : tie.Need-start-requires Inv-loop μ-loop
 start-requires c κs = search needs
 
 add-count : tie.Need-add-count Inv-loop μ-loop
-add-count c = omega (arith, c .before .before .before .before .before .before .answer .ensures .fits, c .before .before .before .before .before .before .before .before .if2 .left, c .before .before .before .before .before .before .before .before .before .before .before .before .before .loop .inv, c .before .before .before .before .before .before .before .before .before .before .before .before .before .before .before .before .good)
+add-count c =
+    let room = room-for (c .before .before .before) in
+    let round = ended room .before in
+    let fits = c .before .before .before .before .before .before .answer .ensures .fits in
+    omega (arith, fits, room .if2 .left, round .loop .inv, round .before .before .before .good)
 
 add-from : tie.Need-add-from Inv-loop μ-loop
-add-from c = omega (arith, c .before .before .before .before .before .before .before .before .before .before .before .before .line-end .ensures .high, c .before .before .before .before .before .before .before .before .before .before .before .before .before .before .before .before .good)
+add-from c =
+    let end = ended (room-for (c .before .before .before)) in
+    omega (arith, end .line-end .ensures .high, end .before .before .before .before .good)
 
 loop-less : tie.Need-loop-less Inv-loop μ-loop
 loop-less c = search needs
 
 loop-again : tie.Need-loop-again Inv-loop μ-loop
 loop-again c =
-    going-on _ _ _ _ _ _ _ _ (c .before .before .before .before .before .before .before .before .before .before .before .before .before .loop .inv) (c .before .before .before .before .before .before .before .before .before .before .before .before .line-end .ensures) _ (c .before .before .before .before .before .before .before .before .before .before .fed .ensures) (c .before .before .before .before .before .before .before .before .before .if1 .left) (c .before .before .before .before .before .before .before .before .if2 .left) _ _ _ _ _
-    (c .before .before .before .before .before .before .answer .ensures) (c .before .before .before .append .ensures) (c .start .ensures)
+    let appended = c .before .before .before in
+    let room = room-for appended in
+    let end = ended room in
+    going-on _ _ _ _ _ _ _ _ (end .before .loop .inv) (end .line-end .ensures) _ (room .before .before .fed .ensures)
+    (room .before .if1 .left) (room .if2 .left) _ _ _ _ _ (appended .before .before .before .answer .ensures)
+    (appended .append .ensures) (c .start .ensures)
 
 pub serve-spec : {M : Type 1} → statement M
 serve-spec =

@@ -25,7 +25,10 @@ add-out : tie.Need-add-out Inv-loop μ-loop
 add-out c = omega arith
 
 slice-write-out : tie.Need-slice-write-out Inv-loop μ-loop
-slice-write-out c = omega (arith, ap length (c .before .before .loop .inv .1) ∙ length-sets (c .before .before .before .args .out .now) (c .before .before .before .args .at) (take (c .before .before .loop .k) (c .before .before .before .args .text .now)))
+slice-write-out c =
+    let a = c .before .before .before .args in
+    let l = c .before .before .loop in
+    omega (arith, ap length (l .inv .1) ∙ length-sets (a .out .now) (a .at) (take (l .k) (a .text .now)))
 
 add-k : tie.Need-add-k Inv-loop μ-loop
 add-k c = search needs
@@ -35,21 +38,28 @@ loop-less c = omega arith
 
 loop-again : tie.Need-loop-again Inv-loop μ-loop
 loop-again c =
-    let h : c .before .before .loop .k < length (c .before .before .before .args .text .now) = omega arith in
-    (omega arith, put-again (c .before .before .before .args .out .now) _ (c .before .before .before .args .text .now) (c .before .before .before .args .at) (c .before .before .loop .k) h (c .before .before .loop .inv .1))
+    let a = c .before .before .before .args in
+    let l = c .before .before .loop in
+    let h : l .k < length (a .text .now) = omega arith in
+    (omega arith, put-again (a .out .now) _ (a .text .now) (a .at) (l .k) h (l .inv .1))
 
 add-result : tie.Need-add-result Inv-loop μ-loop
 add-result c = omega arith
 
 same-length : tie.Need-same-length Inv-loop μ-loop
-same-length c = ap length (c .before .loop .inv .1) ∙ length-sets (c .before .before .args .out .now) (c .before .before .args .at) (take (c .before .loop .k) (c .before .before .args .text .now))
+same-length c =
+    let a = c .before .before .args in
+    let l = c .before .loop in
+    ap length (l .inv .1) ∙ length-sets (a .out .now) (a .at) (take (l .k) (a .text .now))
 
 returns : tie.Need-returns Inv-loop μ-loop
 returns c =
-    let h : length (c .before .before .args .text .now) ≤ c .before .loop .k = omega arith in
+    let a = c .before .before .args in
+    let l = c .before .loop in
+    let h : length (a .text .now) ≤ l .k = omega arith in
     record {
       behind = omega arith;
-      stored = c .before .loop .inv .1 ∙ ap (sets (c .before .before .args .out .now) (c .before .before .args .at)) (take-all (c .before .loop .k) (c .before .before .args .text .now) h);
+      stored = l .inv .1 ∙ ap (sets (a .out .now) (a .at)) (take-all (l .k) (a .text .now) h);
     }
 
 pub put-spec : {M : Type 1} → statement M

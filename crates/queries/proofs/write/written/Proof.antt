@@ -107,28 +107,46 @@ returns c = search needs
 
 returns-2 : tie.Need-returns-2
 returns-2 c =
-    put-answer (c .before .before .before .before .before .before .before .args .answer) _ (c .before .before .before .before .before .before .before .args .out .now) _ _ (c .before .before .before .before .before .enum-told2 .given .1) (omega arith) (omega arith)
+    let told = c .before .before .before .before .before in
+    let a = told .before .before .args in
+    put-answer (a .answer) _ (a .out .now) _ _ (told .enum-told2 .given .1) (omega arith) (omega arith)
     (put-two (c .before .before .put .ensures) (c .put-end .ensures))
 
 returns-3 : tie.Need-returns-3
 returns-3 c =
-    put-answer (c .before .before .before .before .before .before .before .before .before .before .args .answer) _ (c .before .before .before .before .before .before .before .before .before .before .args .out .now) _ _ (c .before .before .before .before .before .before .before .before .answer .given .1) (omega arith) (omega arith)
-    (put-two (c .before .before .before .before .put2 .ensures) (put-two (c .before .before .put-field .ensures .0) (c .put-end2 .ensures)))
+    let field = c .before .before in
+    let told = field .before .before .before .before .before .before in
+    let a = told .before .before .args in
+    put-answer (a .answer) _ (a .out .now) _ _ (told .answer .given .1) (omega arith) (omega arith)
+    (put-two (field .before .before .put2 .ensures) (put-two (field .put-field .ensures .0) (c .put-end2 .ensures)))
 
 returns-4 : tie.Need-returns-4
 returns-4 c =
-    put-answer (c .before .before .before .before .before .before .before .before .before .before .args .answer) _ (c .before .before .before .before .before .before .before .before .before .before .args .out .now) _ _ (c .before .before .before .before .before .before .before .before .answer2 .given .1) (omega arith) (omega arith)
-    (put-two (c .before .before .before .before .put3 .ensures) (put-two (c .before .before .put-field2 .ensures .0) (c .put-end3 .ensures)))
+    let field = c .before .before in
+    let told = field .before .before .before .before .before .before in
+    let a = told .before .before .args in
+    put-answer (a .answer) _ (a .out .now) _ _ (told .answer2 .given .1) (omega arith) (omega arith)
+    (put-two (field .before .before .put3 .ensures) (put-two (field .put-field2 .ensures .0) (c .put-end3 .ensures)))
 
 returns-5 : tie.Need-returns-5
 returns-5 c =
-    put-answer (c .before .before .before .before .before .before .before .before .before .before .before .before .args .answer) _ (c .before .before .before .before .before .before .before .before .before .before .before .before .args .out .now) _ _ (c .before .before .before .before .before .before .before .before .before .before .answer3 .given .1) (omega arith) (omega arith)
-    (put-two (c .before .before .before .before .before .before .put4 .ensures) (put-two (c .before .before .before .before .put-field3 .ensures .0) (put-two (c .before .before .put-field4 .ensures .0) (c .put-end4 .ensures))))
+    let second = c .before .before in
+    let first = second .before .before in
+    let told = first .before .before .before .before .before .before in
+    let a = told .before .before .args in
+    put-answer (a .answer) _ (a .out .now) _ _ (told .answer3 .given .1) (omega arith) (omega arith)
+    (put-two (first .before .before .put4 .ensures)
+    (put-two (first .put-field3 .ensures .0) (put-two (second .put-field4 .ensures .0) (c .put-end4 .ensures))))
 
 returns-6 : tie.Need-returns-6
 returns-6 c =
-    put-answer (c .before .before .before .before .before .before .before .before .before .before .before .before .args .answer) _ (c .before .before .before .before .before .before .before .before .before .before .before .before .args .out .now) _ _ (c .before .before .before .before .before .before .before .before .before .before .answer4 .given .1) (omega arith) (omega arith)
-    (put-two (c .before .before .before .before .before .before .put5 .ensures) (put-two (c .before .before .before .before .put-field5 .ensures .0) (put-two (c .before .before .put-field6 .ensures .0) (c .put-end5 .ensures))))
+    let second = c .before .before in
+    let first = second .before .before in
+    let told = first .before .before .before .before .before .before in
+    let a = told .before .before .args in
+    put-answer (a .answer) _ (a .out .now) _ _ (told .answer4 .given .1) (omega arith) (omega arith)
+    (put-two (first .before .before .put5 .ensures)
+    (put-two (first .put-field5 .ensures .0) (put-two (second .put-field6 .ensures .0) (c .put-end5 .ensures))))
 
 pub written-spec : {M : Type 1} → statement M
 written-spec =

@@ -34,14 +34,16 @@ shared-slice-read-demand-of-one-2 c = search needs
 
 demand-of-one-requires : tie.Need-demand-of-one-requires Inv-loop μ-loop
 demand-of-one-requires c κs =
-    let tasks = c .before .before .before .before .before .before .pre .0 in
+    let asked = c .before .before .before .before .before .before .pre in
+    let tasks = asked .0 in
     let k = c .before .before .before .loop .k in
-    (tasks .period-least k (omega arith), tasks .period-most k (omega arith), tasks .cost-most k (omega arith), c .before .before .before .before .before .before .pre .1 .1)
+    (tasks .period-least k (omega arith), tasks .period-most k (omega arith), tasks .cost-most k (omega arith), asked .1 .1)
 
 add-sum : tie.Need-add-sum Inv-loop μ-loop
 add-sum c =
-    let tasks = c .before .before .before .before .before .before .before .pre .0 in
-    record { fits = omega (arith, c .demand-of-one .ensures, demand-most _ _ tasks (c .before .before .before .before .loop .k) (c .before .before .before .before .before .before .before .args .t) (omega arith) (omega arith)) }
+    let s = c .before .before .before .before .before .before .before in
+    let most = demand-most _ _ (s .pre .0) (c .before .before .before .before .loop .k) (s .args .t) (omega arith) (omega arith) in
+    record { fits = omega (arith, c .demand-of-one .ensures, most) }
 
 add-k : tie.Need-add-k Inv-loop μ-loop
 add-k c = search needs
@@ -52,7 +54,8 @@ loop-less c = search needs
 loop-again : tie.Need-loop-again Inv-loop μ-loop
 loop-again c =
     let a = c .before .before .before .before .before .before .before .args in
-    (omega arith, omega (arith, demand-next (a .periods .now) (a .costs .now) (c .before .before .before .before .loop .k) (a .t), c .demand-of-one .ensures))
+    let next = demand-next (a .periods .now) (a .costs .now) (c .before .before .before .before .loop .k) (a .t) in
+    (omega arith, omega (arith, next, c .demand-of-one .ensures))
 
 returns : tie.Need-returns Inv-loop μ-loop
 returns c =

@@ -32,15 +32,21 @@ add-lost c =
 
 mul-result : tie.Need-mul-result
 mul-result c =
-    let a = c .before .before .args in record { fits = omega (arith, whole-most (a .t) (a .p) (a .b) (a .p - a .b) (c .before .before .pre .1)) }
+    let s = c .before .before in
+    let a = s .args in
+    record { fits = omega (arith, whole-most (a .t) (a .p) (a .b) (a .p - a .b) (s .pre .1)) }
 
 mul-result-2 : tie.Need-mul-result-2
 mul-result-2 c =
-    let a = c .before .before .args in record { fits = omega (arith, whole-most (a .t) (a .p) (a .b) (a .p - a .b) (c .before .before .pre .1)) }
+    let s = c .before .before in
+    let a = s .args in
+    record { fits = omega (arith, whole-most (a .t) (a .p) (a .b) (a .p - a .b) (s .pre .1)) }
 
 add-result : tie.Need-add-result
 add-result c =
-    let a = c .before .before .args in record { fits = omega (arith, whole-most (a .t) (a .p) (a .b) (a .p - a .b) (c .before .before .pre .1)) }
+    let s = c .before .before in
+    let a = s .args in
+    record { fits = omega (arith, whole-most (a .t) (a .p) (a .b) (a .p - a .b) (s .pre .1)) }
 
 returns-2 : tie.Need-returns-2
 returns-2 c =

@@ -17,10 +17,13 @@ abbrev μ-loop : tie.MeasureT-loop
 
 loop-holds : tie.Need-loop-holds Inv-loop μ-loop
 loop-holds c =
-    (omega arith, leaps-none (c .before .before .before .args .periods .now) (c .before .before .before .args .costs .now) (c .before .before .before .args .leaps .now) (c .before .before .before .pre .1 .1))
+    let s = c .before .before .before in
+    (omega arith, leaps-none (s .args .periods .now) (s .args .costs .now) (s .args .leaps .now) (s .pre .1 .1))
 
 fill-task-requires : tie.Need-fill-task-requires Inv-loop μ-loop
-fill-task-requires c κs = (c .before .before .before .before .before .before .pre .0, (c .before .loop-test .taken, (c .before .before .before .before .before .before .pre .1 .0, c .before .before .loop .inv .1)))
+fill-task-requires c κs =
+    let asked = c .before .before .before .before .before .before .pre in
+    (asked .0, (c .before .loop-test .taken, (asked .1 .0, c .before .before .loop .inv .1)))
 
 add-i : tie.Need-add-i Inv-loop μ-loop
 add-i c = search needs

@@ -47,11 +47,13 @@ loop-again : tie.Need-loop-again Inv-loop μ-loop
 loop-again c =
     let a = c .before .before .args in
     let l = c .before .loop in
-    let none = none-more-spare (a .periods .now) (a .costs .now) (a .i) (getD (a .periods .now) (a .i) 0 + 1) (a .from) (l .spare) (l .inv .0) (c .before .before .pre .none) in (
+    let end = getD (a .periods .now) (a .i) 0 + 1 in
+    let none =
+    none-more-spare (a .periods .now) (a .costs .now) (a .i) end (a .from) (l .spare) (l .inv .0) (c .before .before .pre .none) in (
       omega (arith, l .inv .0),
       omega (arith, c .loop-test .taken),
       leaps-more (a .periods .now) (a .costs .now) (l .leaps) (a .i) (l .spare) 2001 (c .loop-test .taken) (place c)
-          (none-beyond (a .periods .now) (a .costs .now) (a .i) (getD (a .periods .now) (a .i) 0 + 1) 2001 (l .spare) none (omega arith)) (l .inv .2),
+          (none-beyond (a .periods .now) (a .costs .now) (a .i) end 2001 (l .spare) none (omega arith)) (l .inv .2),
     )
 
 returns : tie.Need-returns Inv-loop μ-loop

@@ -1,4 +1,5 @@
--- `fill_spare` enters a length for each number of ticks to spare that no shorter one has. The invariant: what is entered is right. Assumes nothing.
+-- `fill_spare` enters a length for each number of ticks to spare that no shorter one has. The invariant: what is entered is right.
+-- Assumes nothing.
 use borrow.Author.Needs.{needs}
 use Rattle.model.specs.Demand.{demandOf}
 use Rattle.shares.specs.Table.{Entering}
@@ -70,7 +71,9 @@ loop-again c =
       tasks = l .inv .tasks;
       task = l .inv .task;
       few = omega (arith, c .before .before .pre .1, c .loop-test .taken);
-      done = leaps-more (a .periods .now) (a .costs .now) (l .leaps) (a .i) (l .spare) (a .t) (omega (arith, l .inv .few)) (place c) (l .inv .none) (l .inv .done);
+      done =
+          leaps-more (a .periods .now) (a .costs .now) (l .leaps) (a .i) (l .spare) (a .t) (omega (arith, l .inv .few)) (place c)
+          (l .inv .none) (l .inv .done);
       none = none-more-spare (a .periods .now) (a .costs .now) (a .i) (a .t) (l .spare) (l .spare + 1) (omega arith) (l .inv .none);
     }
 

@@ -12,7 +12,8 @@ use Rattle.shares.proofs.leaps.fill_task.Statement.{statement}
 use Rattle.shares.proofs.leaps.fill_task.Tie as tie
 
 abbrev Inv-loop : tie.InvT-loop
-Inv-loop periods costs demands leaps₀ i spare₀ t₀ t-end leaps spare t = (1 ≤ t) × (t ≤ getD periods i 0 + 1) × Entering periods costs leaps i t spare
+Inv-loop periods costs demands leaps₀ i spare₀ t₀ t-end leaps spare t =
+    (1 ≤ t) × (t ≤ getD periods i 0 + 1) × Entering periods costs leaps i t spare
 
 abbrev μ-loop : tie.MeasureT-loop
 μ-loop periods costs demands leaps₀ i spare₀ t₀ t-end leaps spare t = (getD periods i 0 + 1) - t
@@ -38,10 +39,12 @@ cell : (c : At)
     ≡ demandOf (start c .args .periods .now) (start c .args .costs .now) (suc (start c .args .i)) (c .before .loop .t)
 cell c =
     let s = start c in
-    cell-at (s .args .periods .now) (s .args .costs .now) (s .args .demands .now) _ (c .before .loop .t) (s .args .i) (s .pre .1 .1 .0 .right)
-    (omega (arith, s .pre .1 .0, s .pre .0 .few)) (s .pre .1 .0)
-    (omega
-    (arith, within c, under-longest (s .args .periods .now) (s .args .costs .now) (s .pre .0) (s .args .i) (s .pre .1 .0), s .pre .1 .0, s .pre .0 .few))
+    let a = s .args in
+    let tasks = s .pre .0 in
+    let task = s .pre .1 .0 in
+    let under = under-longest (a .periods .now) (a .costs .now) tasks (a .i) task in
+    cell-at (a .periods .now) (a .costs .now) (a .demands .now) _ (c .before .loop .t) (a .i) (s .pre .1 .1 .0 .right)
+    (omega (arith, task, tasks .few)) task (omega (arith, within c, under, task, tasks .few))
 
 mul-t-end : tie.Need-mul-t-end Inv-loop μ-loop
 mul-t-end c = record { fits = omega (arith, c .before .before .before .pre .1 .0, c .before .before .before .pre .0 .few) }
@@ -50,52 +53,56 @@ shared-slice-read-t-end : tie.Need-shared-slice-read-t-end Inv-loop μ-loop
 shared-slice-read-t-end c = c .before .before .before .before .pre .1 .0
 
 add-t-end : tie.Need-add-t-end Inv-loop μ-loop
-add-t-end c = record { fits = omega (arith, c .before .before .before .before .pre .0 .period-most (c .before .before .before .before .args .i) (c .before .before .before .before .pre .1 .0)) }
+add-t-end c =
+    let s = c .before .before .before .before in record { fits = omega (arith, s .pre .0 .period-most (s .args .i) (s .pre .1 .0)) }
 
 loop-holds : tie.Need-loop-holds Inv-loop μ-loop
 loop-holds c =
     let a = c .before .before .before .before .args in
+    let asked = c .before .before .before .before .pre in
     let e : a .i * 2001 ≡ a .i * 2001 + 0 = omega arith in (
       omega arith,
-      omega (arith, c .before .before .before .before .pre .0 .period-least (a .i) (c .before .before .before .before .pre .1 .0)),
+      omega (arith, asked .0 .period-least (a .i) (asked .1 .0)),
       record {
-        tasks = c .before .before .before .before .pre .0;
-        task = c .before .before .before .before .pre .1 .0;
+        tasks = asked .0;
+        task = asked .1 .0;
         few = omega arith;
-        done = subst (λ (m : ℕ). Leaps (a .periods .now) (a .costs .now) (a .leaps .now) m) e (c .before .before .before .before .pre .1 .1 .1);
+        done = subst (λ (m : ℕ). Leaps (a .periods .now) (a .costs .now) (a .leaps .now) m) e (asked .1 .1 .1);
         none = λ u p l. absurd (omega arith);
       },
     )
 
-cast-wide : tie.Need-cast-wide Inv-loop μ-loop
-cast-wide c = record { fits = omega (arith, place c) }
+cast-cell-ticks : tie.Need-cast-cell-ticks Inv-loop μ-loop
+cast-cell-ticks c = record { fits = omega (arith, place c) }
 
-mul-wide : tie.Need-mul-wide Inv-loop μ-loop
-mul-wide c = record { fits = omega (arith, place c) }
+mul-cell-ticks : tie.Need-mul-cell-ticks Inv-loop μ-loop
+mul-cell-ticks c = record { fits = omega (arith, place c) }
 
-add-wide : tie.Need-add-wide Inv-loop μ-loop
-add-wide c = record { fits = omega (arith, place c) }
+add-cell-ticks : tie.Need-add-cell-ticks Inv-loop μ-loop
+add-cell-ticks c = record { fits = omega (arith, place c) }
 
-mul-wide-2 : tie.Need-mul-wide-2 Inv-loop μ-loop
-mul-wide-2 c = record { fits = omega (arith, place c) }
+mul-cell-ticks-2 : tie.Need-mul-cell-ticks-2 Inv-loop μ-loop
+mul-cell-ticks-2 c = record { fits = omega (arith, place c) }
 
-shared-slice-read-wide : tie.Need-shared-slice-read-wide Inv-loop μ-loop
-shared-slice-read-wide c = omega (arith, place (c .before), start (c .before) .pre .1 .1 .0 .size)
+shared-slice-read-cell-ticks : tie.Need-shared-slice-read-cell-ticks Inv-loop μ-loop
+shared-slice-read-cell-ticks c = omega (arith, place (c .before), start (c .before) .pre .1 .1 .0 .size)
 
-wide-requires : tie.Need-wide-requires Inv-loop μ-loop
-wide-requires c κs = search needs
+cell-ticks-requires : tie.Need-cell-ticks-requires Inv-loop μ-loop
+cell-ticks-requires c κs = search needs
 
 fill-spare-requires : tie.Need-fill-spare-requires Inv-loop μ-loop
 fill-spare-requires c κs =
     let l = c .before .before .before in
+    let now = l .before .loop in
     let a = start l .args in
+    let tasks = start l .pre .0 in
+    let task = start l .pre .1 .0 in
     let e : suc (a .i) ≡ a .i + 1 = omega arith in
-    let d = c .before .wide .ensures ∙ cell l in (
-      c .before .before .before .before .loop .inv .2,
+    let d = c .before .cell-ticks .ensures ∙ cell l in (
+      now .inv .2,
       (
-        omega
-            (arith, d, demand-some (a .periods .now) (a .costs .now) (start l .pre .0) (a .i) (c .before .before .before .before .loop .t) (start l .pre .1 .0) (c .before .before .before .before .loop .inv .0)),
-        d ∙ ap (λ (n : ℕ). demandOf (a .periods .now) (a .costs .now) n (c .before .before .before .before .loop .t)) e,
+        omega (arith, d, demand-some (a .periods .now) (a .costs .now) tasks (a .i) (now .t) task (now .inv .0)),
+        d ∙ ap (λ (n : ℕ). demandOf (a .periods .now) (a .costs .now) n (now .t)) e,
         few l,
       ),
     )
@@ -129,12 +136,12 @@ fill-task-spec =
     shared-slice-read-t-end
     add-t-end
     loop-holds
-    cast-wide
-    mul-wide
-    add-wide
-    mul-wide-2
-    shared-slice-read-wide
-    wide-requires
+    cast-cell-ticks
+    mul-cell-ticks
+    add-cell-ticks
+    mul-cell-ticks-2
+    shared-slice-read-cell-ticks
+    cell-ticks-requires
     fill-spare-requires
     add-t
     loop-less

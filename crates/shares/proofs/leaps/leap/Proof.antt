@@ -13,20 +13,20 @@ returns c =
     let a = c .before .before .args in
     sym (leap-far (a .leaps .now) (a .i) (a .d) (a .spare) (c .if1 .taken))
 
-mul-wide : tie.Need-mul-wide
-mul-wide c = record { fits = omega (arith, c .before .before .pre) }
+mul-cell-ticks : tie.Need-mul-cell-ticks
+mul-cell-ticks c = record { fits = omega (arith, c .before .before .pre) }
 
-add-wide : tie.Need-add-wide
-add-wide c = record { fits = omega (arith, c .before .before .pre, c .if1 .left) }
+add-cell-ticks : tie.Need-add-cell-ticks
+add-cell-ticks c = record { fits = omega (arith, c .before .before .pre, c .if1 .left) }
 
-mul-wide-2 : tie.Need-mul-wide-2
-mul-wide-2 c = record { fits = omega (arith, c .before .before .pre, c .if1 .left) }
+mul-cell-ticks-2 : tie.Need-mul-cell-ticks-2
+mul-cell-ticks-2 c = record { fits = omega (arith, c .before .before .pre, c .if1 .left) }
 
-shared-slice-read-wide : tie.Need-shared-slice-read-wide
-shared-slice-read-wide c = omega (arith, c .before .before .before .pre, c .before .if1 .left)
+shared-slice-read-cell-ticks : tie.Need-shared-slice-read-cell-ticks
+shared-slice-read-cell-ticks c = omega (arith, c .before .before .before .pre, c .before .if1 .left)
 
-wide-requires : tie.Need-wide-requires
-wide-requires c κs = search needs
+cell-ticks-requires : tie.Need-cell-ticks-requires
+cell-ticks-requires c κs = search needs
 
 add-if2 : tie.Need-add-if2
 add-if2 c = record { fits = omega (arith, c .before .before .before .before .pre) }
@@ -37,25 +37,27 @@ add-result c = record { fits = omega (arith, c .before .before .before .before .
 returns-2 : tie.Need-returns-2
 returns-2 c =
     let a = c .before .before .before .before .before .args in
-    let cell = c .before .wide .ensures in
-    sym (leap-near (a .leaps .now) (a .i) (a .d) (a .spare) (c .before .before .before .if1 .left) ∙ max-eq-left (omega (arith, cell, c .if2 .taken)))
+    let near = leap-near (a .leaps .now) (a .i) (a .d) (a .spare) (c .before .before .before .if1 .left) in
+    let cell = c .before .cell-ticks .ensures in
+    sym (near ∙ max-eq-left (omega (arith, cell, c .if2 .taken)))
 
 returns-3 : tie.Need-returns-3
 returns-3 c =
     let a = c .before .before .before .before .before .args in
-    let cell = c .before .wide .ensures in
-    cell ∙ sym (leap-near (a .leaps .now) (a .i) (a .d) (a .spare) (c .before .before .before .if1 .left) ∙ max-eq-right (omega (arith, cell, c .if2 .left)))
+    let near = leap-near (a .leaps .now) (a .i) (a .d) (a .spare) (c .before .before .before .if1 .left) in
+    let cell = c .before .cell-ticks .ensures in
+    cell ∙ sym (near ∙ max-eq-right (omega (arith, cell, c .if2 .left)))
 
 pub leap-spec : {M : Type 1} → statement M
 leap-spec =
     tie.close
     (tie.spec
     returns
-    mul-wide
-    add-wide
-    mul-wide-2
-    shared-slice-read-wide
-    wide-requires
+    mul-cell-ticks
+    add-cell-ticks
+    mul-cell-ticks-2
+    shared-slice-read-cell-ticks
+    cell-ticks-requires
     add-if2
     add-result
     returns-2

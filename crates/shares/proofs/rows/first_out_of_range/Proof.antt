@@ -41,7 +41,8 @@ add-result c = search needs
 returns : tie.Need-returns Inv-loop μ-loop
 returns c =
     let a = c .before .before .before .before .before .before .before .before .args in
-    none-found (outOfRange (a .periods .now) (a .costs .now)) _ _ (c .before .before .before .before .before .loop .inv .1) (c .before .before .before .before .loop-test .taken)
+    let i = c .before .before .before .before in
+    none-found (outOfRange (a .periods .now) (a .costs .now)) _ _ (i .before .loop .inv .1) (i .loop-test .taken)
     (range-at (a .periods .now) (a .costs .now) _ ∙ ap not (sym (c .before .is-in-range .ensures)) ∙ c .if1 .taken)
 
 add-i : tie.Need-add-i Inv-loop μ-loop

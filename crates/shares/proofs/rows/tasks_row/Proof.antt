@@ -22,7 +22,8 @@ first-out-of-range-requires c κs = search needs
 
 returns-4 : tie.Need-returns-4
 returns-4 c =
-    let a = c .before .before .before .before .before .before .before .args in row-range (a .periods .now) (a .costs .now) (omega arith) (omega arith) (omega arith)
+    let a = c .before .before .before .before .before .before .before .args in
+    row-range (a .periods .now) (a .costs .now) (omega arith) (omega arith) (omega arith)
     (omega (arith, c .before .first-out-of-range .ensures))
 
 first-fall-requires : tie.Need-first-fall-requires
@@ -30,12 +31,14 @@ first-fall-requires c κs = search needs
 
 returns-5 : tie.Need-returns-5
 returns-5 c =
-    let a = c .before .before .before .before .before .before .before .before .before .args in row-fall (a .periods .now) (a .costs .now) (omega arith) (omega arith) (omega arith)
+    let a = c .before .before .before .before .before .before .before .before .before .args in
+    row-fall (a .periods .now) (a .costs .now) (omega arith) (omega arith) (omega arith)
     (omega (arith, c .before .before .before .first-out-of-range .ensures)) (omega (arith, c .before .first-fall .ensures))
 
 returns-6 : tie.Need-returns-6
 returns-6 c =
-    let a = c .before .before .before .before .before .before .before .before .before .args in row-none (a .periods .now) (a .costs .now) (omega arith) (omega arith) (omega arith)
+    let a = c .before .before .before .before .before .before .before .before .before .args in
+    row-none (a .periods .now) (a .costs .now) (omega arith) (omega arith) (omega arith)
     (omega (arith, c .before .before .before .first-out-of-range .ensures)) (omega (arith, c .before .first-fall .ensures))
 
 pub tasks-row-spec : {M : Type 1} → statement M

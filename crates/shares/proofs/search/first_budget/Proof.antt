@@ -59,7 +59,7 @@ start l = began (of-tasks (of-lengths l))
 
 -- within the lengths: the demand is read, what it waits is known, it is too much, and where to leap is known
 abbrev Read : Type 0
-Read = tie.After-wide Inv-lengths μ-lengths Inv-tasks μ-tasks Inv-budgets μ-budgets
+Read = tie.After-cell-ticks Inv-lengths μ-lengths Inv-tasks μ-tasks Inv-budgets μ-budgets
 
 abbrev Waited : Type 0
 Waited = tie.After-waited Inv-lengths μ-lengths Inv-tasks μ-tasks Inv-budgets μ-budgets
@@ -165,7 +165,8 @@ next-is l d s u e f g =
 next-here : (c : Seen) → leapt c .leap .result ≡ next (here c)
 next-here c =
     let w = waited (leapt c) in
-    next-is (here c) (read w .wide .result) (w .waited .result) (leapt c .leap .result) (read w .wide .ensures) (w .waited .ensures .0)
+    next-is (here c) (read w .cell-ticks .result) (w .waited .result) (leapt c .leap .result) (read w .cell-ticks .ensures)
+    (w .waited .ensures .0)
     (leapt c .leap .ensures)
 
 budgets-holds :
@@ -179,25 +180,25 @@ lengths-holds :
     tie.Need-lengths-holds Inv-lengths μ-lengths Inv-tasks μ-tasks Inv-budgets μ-budgets
 lengths-holds c = (c .before .tasks .inv .0, (c .before .tasks .inv .1 .0, (c .tasks-test .taken, (refl, refl))))
 
-cast-wide : tie.Need-cast-wide Inv-lengths μ-lengths Inv-tasks μ-tasks Inv-budgets μ-budgets
-cast-wide c = record { fits = omega (arith, place c) }
+cast-cell-ticks : tie.Need-cast-cell-ticks Inv-lengths μ-lengths Inv-tasks μ-tasks Inv-budgets μ-budgets
+cast-cell-ticks c = record { fits = omega (arith, place c) }
 
-mul-wide : tie.Need-mul-wide Inv-lengths μ-lengths Inv-tasks μ-tasks Inv-budgets μ-budgets
-mul-wide c = record { fits = omega (arith, place c) }
+mul-cell-ticks : tie.Need-mul-cell-ticks Inv-lengths μ-lengths Inv-tasks μ-tasks Inv-budgets μ-budgets
+mul-cell-ticks c = record { fits = omega (arith, place c) }
 
-add-wide : tie.Need-add-wide Inv-lengths μ-lengths Inv-tasks μ-tasks Inv-budgets μ-budgets
-add-wide c = record { fits = omega (arith, place c) }
+add-cell-ticks : tie.Need-add-cell-ticks Inv-lengths μ-lengths Inv-tasks μ-tasks Inv-budgets μ-budgets
+add-cell-ticks c = record { fits = omega (arith, place c) }
 
-mul-wide-2 : tie.Need-mul-wide-2 Inv-lengths μ-lengths Inv-tasks μ-tasks Inv-budgets μ-budgets
-mul-wide-2 c = record { fits = omega (arith, place c) }
+mul-cell-ticks-2 : tie.Need-mul-cell-ticks-2 Inv-lengths μ-lengths Inv-tasks μ-tasks Inv-budgets μ-budgets
+mul-cell-ticks-2 c = record { fits = omega (arith, place c) }
 
-shared-slice-read-wide :
-    tie.Need-shared-slice-read-wide Inv-lengths μ-lengths Inv-tasks μ-tasks Inv-budgets μ-budgets
-shared-slice-read-wide c = omega (arith, place (c .before), ready (c .before) .table .size)
+shared-slice-read-cell-ticks :
+    tie.Need-shared-slice-read-cell-ticks Inv-lengths μ-lengths Inv-tasks μ-tasks Inv-budgets μ-budgets
+shared-slice-read-cell-ticks c = omega (arith, place (c .before), ready (c .before) .table .size)
 
-wide-requires :
-    tie.Need-wide-requires Inv-lengths μ-lengths Inv-tasks μ-tasks Inv-budgets μ-budgets
-wide-requires c κs = search needs
+cell-ticks-requires :
+    tie.Need-cell-ticks-requires Inv-lengths μ-lengths Inv-tasks μ-tasks Inv-budgets μ-budgets
+cell-ticks-requires c κs = search needs
 
 waited-requires :
     tie.Need-waited-requires Inv-lengths μ-lengths Inv-tasks μ-tasks Inv-budgets μ-budgets
@@ -206,12 +207,12 @@ waited-requires c κs =
       omega (arith, l .lengths .inv .0 .begun, start l .pre .1 .0),
       most l,
       ready l .period-most,
-      omega (arith, c .wide .ensures, cell l, some-ticks l),
-      omega (arith, c .wide .ensures, cell l, few-ticks l),
+      omega (arith, c .cell-ticks .ensures, cell l, some-ticks l),
+      omega (arith, c .cell-ticks .ensures, cell l, few-ticks l),
     )
 
 add-if2 : tie.Need-add-if2 Inv-lengths μ-lengths Inv-tasks μ-tasks Inv-budgets μ-budgets
-add-if2 c = record { fits = omega (arith, c .waited .ensures .1, read c .wide .ensures, cell (at c), few-ticks (at c)) }
+add-if2 c = record { fits = omega (arith, c .waited .ensures .1, read c .cell-ticks .ensures, cell (at c), few-ticks (at c)) }
 
 add-i : tie.Need-add-i Inv-lengths μ-lengths Inv-tasks μ-tasks Inv-budgets μ-budgets
 add-i c = record { fits = omega (arith, column (at (c .before))) }
@@ -224,8 +225,8 @@ tasks-again c =
     let w = c .before in
     let l = at w in
     let s = start l in
-    let d = read w .wide .ensures ∙ cell l in
-    let e = waits-is l (read w .wide .result) (w .waited .result) (read w .wide .ensures) (w .waited .ensures .0) in
+    let d = read w .cell-ticks .ensures ∙ cell l in
+    let e = waits-is l (read w .cell-ticks .result) (w .waited .result) (read w .cell-ticks .ensures) (w .waited .ensures .0) in
     let enough : demanded l + waits l ≤ l .lengths .t =
     subst (λ (n : ℕ). demanded l + n ≤ l .lengths .t) e
     (subst (λ (n : ℕ). n + w .waited .result ≤ l .lengths .t) d (c .if2 .taken)) in (
@@ -239,7 +240,7 @@ leap-requires :
 leap-requires c κs =
     let w = c .before in
     let l = at w in
-    (ready l .leaps-table .size, column l, omega (arith, read w .wide .ensures, cell l, few-ticks l), w .waited .ensures .1)
+    (ready l .leaps-table .size, column l, omega (arith, read w .cell-ticks .ensures, cell l, few-ticks l), w .waited .ensures .1)
 
 mul-if3 : tie.Need-mul-if3 Inv-lengths μ-lengths Inv-tasks μ-tasks Inv-budgets μ-budgets
 mul-if3 c = record { fits = omega (arith, column (at (waited c))) }
@@ -271,7 +272,7 @@ onward c =
     omega (
       arith,
       leapt c .leap .ensures,
-      leap-least (leaps l) (l .lengths .i) (read w .wide .result) (w .waited .result),
+      leap-least (leaps l) (l .lengths .i) (read w .cell-ticks .result) (w .waited .result),
       leapt c .before .if2 .left,
       within l,
       longest-most (ps l) (es l) (ready l .tasks),
@@ -323,12 +324,12 @@ first-budget-spec =
     budgets-holds
     tasks-holds
     lengths-holds
-    cast-wide
-    mul-wide
-    add-wide
-    mul-wide-2
-    shared-slice-read-wide
-    wide-requires
+    cast-cell-ticks
+    mul-cell-ticks
+    add-cell-ticks
+    mul-cell-ticks-2
+    shared-slice-read-cell-ticks
+    cell-ticks-requires
     waited-requires
     add-if2
     add-i

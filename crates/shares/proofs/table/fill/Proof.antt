@@ -29,11 +29,14 @@ add-t-end c = record { fits = omega (arith, longest-most _ _ (c .before .before 
 
 loop-holds : tie.Need-loop-holds Inv-loop μ-loop
 loop-holds c =
-    (omega arith, record { size = c .before .before .before .pre .1; right = cells-none (c .before .before .before .args .periods .now) (c .before .before .before .args .costs .now) (c .before .before .before .args .cells .now) })
+    let s = c .before .before .before in
+    let right = cells-none (s .args .periods .now) (s .args .costs .now) (s .args .cells .now) in
+    (omega arith, record { size = s .pre .1; right = right })
 
 fill-length-requires : tie.Need-fill-length-requires Inv-loop μ-loop
 fill-length-requires c κs =
-    (c .before .before .before .before .before .before .pre .0, (omega (arith, longest-most _ _ (c .before .before .before .before .before .before .pre .0)), c .before .before .loop .inv .1))
+    let tasks = c .before .before .before .before .before .before .pre .0 in
+    (tasks, (omega (arith, longest-most _ _ tasks), c .before .before .loop .inv .1))
 
 add-t : tie.Need-add-t Inv-loop μ-loop
 add-t c = record { fits = omega (arith, longest-most _ _ (c .before .before .before .before .before .before .before .pre .0)) }

@@ -13,7 +13,8 @@ use Rattle.shares.proofs.table.fill_length.Statement.{statement}
 use Rattle.shares.proofs.table.fill_length.Tie as tie
 
 abbrev Inv-loop : tie.InvT-loop
-Inv-loop periods costs cells₀ t start sum₀ i₀ i-end cells sum i = (i ≤ length periods) × (length cells ≡ 32016) × (sum ≡ demandOf periods costs i t) × Cells periods costs cells (t * 16 + i)
+Inv-loop periods costs cells₀ t start sum₀ i₀ i-end cells sum i =
+    (i ≤ length periods) × (length cells ≡ 32016) × (sum ≡ demandOf periods costs i t) × Cells periods costs cells (t * 16 + i)
 
 abbrev μ-loop : tie.MeasureT-loop
 μ-loop periods costs cells₀ t start sum₀ i₀ i-end cells sum i = length periods - i
@@ -45,9 +46,10 @@ shared-slice-read-demand-of-one-2 c = search needs
 
 demand-of-one-requires : tie.Need-demand-of-one-requires Inv-loop μ-loop
 demand-of-one-requires c κs =
-    let tasks = c .before .before .before .before .before .before .pre .0 in
+    let asked = c .before .before .before .before .before .before .pre in
+    let tasks = asked .0 in
     let i = c .before .before .before .loop .i in
-    (tasks .period-least i (omega arith), tasks .period-most i (omega arith), tasks .cost-most i (omega arith), c .before .before .before .before .before .before .pre .1 .0)
+    (tasks .period-least i (omega arith), tasks .period-most i (omega arith), tasks .cost-most i (omega arith), asked .1 .0)
 
 -- the sum with one more task's demand
 next-most : (c : tie.After-demand-of-one Inv-loop μ-loop) → c .before .before .before .before .loop .sum + c .demand-of-one .result ≤ 64000
@@ -55,8 +57,8 @@ next-most c =
     let a = c .before .before .before .before .before .before .before .args in
     let tasks = c .before .before .before .before .before .before .before .pre .0 in
     let l = c .before .before .before .before .loop in
-    omega
-    (arith, l .inv .2, c .demand-of-one .ensures, tasks .few, demand-most (a .periods .now) (a .costs .now) tasks (suc (l .i)) (a .t) (omega arith) (omega arith))
+    let most = demand-most (a .periods .now) (a .costs .now) tasks (suc (l .i)) (a .t) (omega arith) (omega arith) in
+    omega (arith, l .inv .2, c .demand-of-one .ensures, tasks .few, most)
 
 add-sum : tie.Need-add-sum Inv-loop μ-loop
 add-sum c = record { fits = omega (arith, next-most c) }
@@ -89,7 +91,8 @@ loop-again c =
       omega arith,
       length-set (l .cells) _ _ ∙ l .inv .1,
       sum,
-      cells-more (a .periods .now) (a .costs .now) (l .cells) (a .t) (l .i) _ (omega arith) (omega arith) (omega (arith, c .demand-of-one .ensures)) (l .inv .3),
+      cells-more (a .periods .now) (a .costs .now) (l .cells) (a .t) (l .i) _ (omega arith) (omega arith)
+          (omega (arith, c .demand-of-one .ensures)) (l .inv .3),
     )
 
 returns : tie.Need-returns Inv-loop μ-loop

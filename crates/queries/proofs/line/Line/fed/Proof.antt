@@ -44,13 +44,19 @@ loop-less c = search needs
 
 loop-again : tie.Need-loop-again Inv-loop μ-loop
 loop-again c =
-    let h : c .before .before .before .before .before .before .loop .k < length (c .before .before .before .before .before .before .before .before .before .before .before .args .bytes .now) = omega arith in
-    (omega arith, (c .before .before .before .before .before .before .loop .inv .1 .0, fed-again _ _ _ _ _ _ _ _ _ h (c .before .before .before .before .before .before .loop .inv .1 .1) (c .before .before .before .read .ensures) (c .keep .ensures .0) (c .keep .ensures .1)))
+    let at = c .before .before .before .before .before .before in
+    let l = at .loop in
+    let h : l .k < length (at .before .before .before .before .before .args .bytes .now) = omega arith in
+    let again =
+    fed-again _ _ _ _ _ _ _ _ _ h (l .inv .1 .1) (c .before .before .before .read .ensures) (c .keep .ensures .0) (c .keep .ensures .1) in
+    (omega arith, (l .inv .1 .0, again))
 
 returns : tie.Need-returns Inv-loop μ-loop
 returns c =
-    let h : length (c .before .before .before .before .before .before .args .bytes .now) ≤ c .before .loop .k = omega arith in
-    c .before .loop .inv .1 .1 ∙ ap (fedBytes (c .before .before .before .before .before .before .args .self)) (take-all (c .before .loop .k) (c .before .before .before .before .before .before .args .bytes .now) h)
+    let a = c .before .before .before .before .before .before .args in
+    let l = c .before .loop in
+    let h : length (a .bytes .now) ≤ l .k = omega arith in
+    l .inv .1 .1 ∙ ap (fedBytes (a .self)) (take-all (l .k) (a .bytes .now) h)
 
 pub fed-spec : {M : Type 1} → statement M
 fed-spec =

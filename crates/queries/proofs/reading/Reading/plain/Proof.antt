@@ -27,13 +27,19 @@ with-digit-requires : tie.Need-with-digit-requires
 with-digit-requires c κs = sym (c .before .is-digit .ensures) ∙ c .if3 .taken
 
 returns-3 : tie.Need-returns-3
-returns-3 c = plain-digit _ _ _ (c .before .before .before .before .before .if1 .left) (c .before .before .before .if2 .left) (sym (c .before .before .is-digit .ensures) ∙ c .before .if3 .taken) (c .with-digit .ensures)
+returns-3 c =
+    let field = c .before .before .before in
+    let digit = sym (c .before .before .is-digit .ensures) ∙ c .before .if3 .taken in
+    plain-digit _ _ _ (field .before .before .if1 .left) (field .if2 .left) digit (c .with-digit .ensures)
 
 or-else-requires : tie.Need-or-else-requires
 or-else-requires c κs = search needs
 
 returns-4 : tie.Need-returns-4
-returns-4 c = plain-other _ _ _ (c .before .before .before .before .before .if1 .left) (c .before .before .before .if2 .left) (sym (c .before .before .is-digit .ensures) ∙ c .before .if3 .left) (c .or-else .ensures)
+returns-4 c =
+    let field = c .before .before .before in
+    let digit = sym (c .before .before .is-digit .ensures) ∙ c .before .if3 .left in
+    plain-other _ _ _ (field .before .before .if1 .left) (field .if2 .left) digit (c .or-else .ensures)
 
 pub plain-spec : {M : Type 1} → statement M
 plain-spec =

@@ -1,7 +1,6 @@
 -- `read` is `byteRead`. Assumes nothing.
 use Rattle.queries.proofs.Steps.{byte-return, byte-other}
 use mathlib.Core.Path.{sym, _∙_, ap}
--- `read` is `byteRead`. Assumes nothing.
 use Rattle.queries.specs.Reading.{returnRead, plainRead}
 use borrow.Author.Needs.{needs}
 use Rattle.queries.proofs.reading.Reading.read.Statement.{statement}
@@ -17,7 +16,9 @@ plain-requires : tie.Need-plain-requires
 plain-requires c κs = search needs
 
 returns-2 : tie.Need-returns-2
-returns-2 c = c .plain .ensures ∙ ap (λ x. plainRead x (c .before .before .before .args .byte)) (c .before .before .released .ensures) ∙ sym (byte-other _ _ (c .before .if1 .left))
+returns-2 c =
+    let r = c .before .before in
+    c .plain .ensures ∙ ap (λ x. plainRead x (r .before .args .byte)) (r .released .ensures) ∙ sym (byte-other _ _ (c .before .if1 .left))
 
 pub read-spec : {M : Type 1} → statement M
 read-spec = tie.close (tie.spec released-requires returns plain-requires returns-2)
