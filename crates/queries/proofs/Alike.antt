@@ -42,8 +42,8 @@ alike-number (b ∷ f) n m e a = go (isDigit b) refl e (alike-number f (digitSte
     go false p q r = let z : _≡_ {A = ℕ} 0 1 = cc in absurd (omega arith)
 
 -- the rows on P and B, and on t, see no difference
-in-range : (a n : ℕ) → n ≤ 3000 → 3000 < a → within a n ≡ false
-in-range a n h k = and-right (leb 1 a) (leb a n) (lt-leb a n (omega arith))
+far-outside : (a n : ℕ) → n ≤ 3000 → 3000 < a → within a n ≡ false
+far-outside a n h k = and-right (leb 1 a) (leb a n) (lt-leb a n (omega arith))
 
 pub within-limit : (a n : ℕ) → within a n ≡ true → a ≤ n
 within-limit a n e = leb-true a n (and-both (leb 1 a) (leb a n) e .1)
@@ -52,13 +52,13 @@ abbrev pub bad-share : ℕ → ℕ → Bool
 bad-share P B = not (inRange P B)
 
 pub share-large : (P B : ℕ) → 3000 < P → bad-share P B ≡ true
-share-large P B h = rw (in-range P 2000 (omega arith) h)
+share-large P B h = rw (far-outside P 2000 (omega arith) h)
 
 pub budget-large : (P B : ℕ) → 3000 < B → bad-share P B ≡ true
 budget-large P B h = go (within P 2000) refl
   where
     go : (t : Bool) → within P 2000 ≡ t → not (t && within B P) ≡ true
-    go true e = rw (in-range B P (omega (arith, within-limit P 2000 e)) h)
+    go true e = rw (far-outside B P (omega (arith, within-limit P 2000 e)) h)
     go false e = refl
 
 pub share-alike : (P P′ B B′ : ℕ) → Alike 3000 P P′ → Alike 3000 B B′ → (X X′ : Reply) → ((P ≡ P′) → (B ≡ B′) → X ≡ X′)
@@ -70,7 +70,7 @@ share-alike P P′ B B′ (inr p) b X X′ r = rw (share-large P B (p .0), share
 pub period-alike : (P P′ : ℕ) → Alike 3000 P P′ → (X X′ : Reply) → ((P ≡ P′) → X ≡ X′)
     → row (not (within P 2000)) 33 0 X ≡ row (not (within P′ 2000)) 33 0 X′
 period-alike P P′ (inl p) X X′ r = rw (p, r p)
-period-alike P P′ (inr p) X X′ r = rw (in-range P 2000 (omega arith) (p .0), in-range P′ 2000 (omega arith) (p .1))
+period-alike P P′ (inr p) X X′ r = rw (far-outside P 2000 (omega arith) (p .0), far-outside P′ 2000 (omega arith) (p .1))
 
 abbrev bad-length : ℕ → ℕ → ℕ → Bool
 bad-length n i t = ltb 2000 t || not (within i n)
@@ -78,7 +78,7 @@ bad-length n i t = ltb 2000 t || not (within i n)
 pub length-alike : (n i i′ t t′ : ℕ) → n ≤ 3000 → Alike 3000 i i′ → Alike 3000 t t′ → (X X′ : Reply) → ((i ≡ i′) → (t ≡ t′) → X ≡ X′)
     → row (bad-length n i t) 35 0 X ≡ row (bad-length n i′ t′) 35 0 X′
 length-alike n i i′ t t′ h (inl p) (inl q) X X′ r = rw (p, q, r p q)
-length-alike n i i′ t t′ h (inr p) (inl q) X X′ r = rw (q, in-range i n h (p .0), in-range i′ n h (p .1), or-true)
+length-alike n i i′ t t′ h (inr p) (inl q) X X′ r = rw (q, far-outside i n h (p .0), far-outside i′ n h (p .1), or-true)
 length-alike n i i′ t t′ h a (inr q) X X′ r = rw (lt-ltb 2000 t (omega (arith, q .0)), lt-ltb 2000 t′ (omega (arith, q .1)))
 
 pub supply-alike : (P P′ B B′ t t′ : ℕ) → Alike 3000 P P′ → Alike 3000 B B′ → Alike 3000 t t′ → supplyReply P B t ≡ supplyReply P′ B′ t′

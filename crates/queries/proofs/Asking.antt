@@ -13,7 +13,7 @@ use Rattle.queries.specs.declared.ask.Spoken.the-variants.{Known, Unknow
 use Rattle.queries.specs.Reading.{noDigits}
 use Rattle.queries.specs.Text.{said, badWord, badField, lineOf}
 use Rattle.queries.specs.Answer.{most, firstBad, wordOf, periodsOf, costsOf, replyOf, isBlank, answerOf}
-use Rattle.queries.specs.Meaning.{heads, replyTo}
+use Rattle.queries.specs.Meaning.{heads, wordReply}
 
 pub less : (a x : ℕ) → a + x - a ≡ x
 less a x = omega arith
@@ -21,14 +21,14 @@ less a x = omega arith
 module _ (w : Word) (h n p e : ℕ) (odd even t : List ℕ) (ep : p ≡ periodsOf n) (ee : e ≡ costsOf n) where
   pub behind-two : h ≡ 2
       → t ≡ lineOf
-      (replyTo w (getD odd 0 0) (getD even 1 0) (getD odd 1 0) (take (1 + p - 1) (drop 1 odd)) (take (2 + e - 2) (drop 2 even)))
+      (wordReply w (getD odd 0 0) (getD even 1 0) (getD odd 1 0) (take (1 + p - 1) (drop 1 odd)) (take (2 + e - 2) (drop 2 even)))
       → t ≡ lineOf (replyOf w h n odd even)
   unfolding replyOf
   behind-two eh q = q ∙ rw (less 1 p, less 2 e, ep, ee, eq-eqb h 2 eh)
 
   pub behind-one : (h ≡ 2 → ⊥)
       → t ≡ lineOf
-      (replyTo w (getD odd 0 0) (getD even 1 0) (getD odd 1 0) (take (1 + p - 1) (drop 1 even)) (take (1 + e - 1) (drop 1 odd)))
+      (wordReply w (getD odd 0 0) (getD even 1 0) (getD odd 1 0) (take (1 + p - 1) (drop 1 even)) (take (1 + e - 1) (drop 1 odd)))
       → t ≡ lineOf (replyOf w h n odd even)
   unfolding replyOf
   behind-one eh q = q ∙ rw (less 1 p, less 1 e, ep, ee, ne-eqb h 2 eh)

@@ -9,27 +9,12 @@ use lib.Dec.{ltb, eqb}
 use lib.ListN.{length, getD}
 use borrow.Author.Tests.{lt-ltb, le-ltb, ltb-true, ltb-false, eqb-true, eqb-false}
 use Rattle.model.specs.Search.{first}
+use Rattle.model.proofs.Places.{first-none, first-at}
 use Rattle.queries.specs.declared.ask.Word.{Word}
 use Rattle.queries.specs.declared.ask.Word.the-variants.{Supply, Demand, Check, Least, Best}
 use Rattle.queries.specs.Meaning.{isNumber, heads, tooMany, badAt, firstBadField}
 use Rattle.queries.specs.Answer.{most, firstBad}
 use Rattle.queries.proofs.Readings.{firstNoNumber}
-
-first-none : (f : ℕ → Bool) (n : ℕ) → ((j : ℕ) → 1 ≤ j → j ≤ n → f j ≡ false) → first f n ≡ 0
-first-none f zero h = refl
-first-none f (suc n) h = rw (first-none f n (λ j a b. h j a (omega arith)), h (suc n) (omega arith) (omega arith))
-
-first-is : (f : ℕ → Bool) (n k : ℕ) → 1 ≤ k → k ≤ n → f k ≡ true → ((j : ℕ) → 1 ≤ j → j < k → f j ≡ false) → first f n ≡ k
-first-is f zero k a b t h = absurd (omega arith)
-first-is f (suc n) k a b t h = go k a b t h (eqb k (suc n)) refl (first-is f n k)
-  where
-    go : (k : ℕ) → 1 ≤ k → k ≤ suc n → f k ≡ true → ((j : ℕ) → 1 ≤ j → j < k → f j ≡ false) → (s : Bool) → eqb k (suc n) ≡ s
-        → (1 ≤ k → k ≤ n → f k ≡ true → ((j : ℕ) → 1 ≤ j → j < k → f j ≡ false) → first f n ≡ k) → first f (suc n) ≡ k
-    go k a b t h true e r =
-        let q : k ≡ suc n = eqb-true k (suc n) e in
-        rw (first-none f n (λ j x y. h j x (omega arith)), rw q at t) (sym q)
-    go zero a b t h false e r = absurd (omega arith)
-    go (suc k) a b t h false e r = rw (r a (omega (arith, eqb-false (suc k) (suc n) e)) t h)
 
 -- over the limits h and m, for any test f of n fields of which g says that one is no string of digits
 module _ (f g : ℕ → Bool) (h m n b : ℕ) (hm : h ≤ m)
@@ -46,12 +31,12 @@ module _ (f g : ℕ → Bool) (h m n b : ℕ) (hm : h ≤ m)
       go true true u v es et eu ev =
           let z : b ≡ 0 = eqb-true b 0 es in
           let l : n < h = ltb-true n h et in
-          sym (first-is f (max n h) (n + 1) (omega arith) (omega arith) (missing l)
+          sym (first-at f (max n h) (n + 1) (omega arith) (omega arith) (missing l)
           (λ j x y. good j x (omega arith) (omega arith) (none z j x (omega arith))))
       go true false true v es et eu ev =
           let z : b ≡ 0 = eqb-true b 0 es in
           let l : m < n = ltb-true m n eu in
-          sym (first-is f (max n h) (m + 1) (omega arith) (omega arith) (many l)
+          sym (first-at f (max n h) (m + 1) (omega arith) (omega arith) (many l)
           (λ j x y. good j x (omega arith) (omega arith) (none z j x (omega arith))))
       go true false false v es et eu ev =
           let z : b ≡ 0 = eqb-true b 0 es in
@@ -61,14 +46,14 @@ module _ (f g : ℕ → Bool) (h m n b : ℕ) (hm : h ≤ m)
       go false t u true es et eu ev =
           let s = some (eqb-false b 0 es) in
           let l : m < b = ltb-true m b ev in
-          sym (first-is f (max n h) (m + 1) (omega arith) (omega (arith, s .0)) (many (omega (arith, s .0)))
+          sym (first-at f (max n h) (m + 1) (omega arith) (omega (arith, s .0)) (many (omega (arith, s .0)))
           (λ j x y. good j x (omega (arith, s .0)) (omega arith) (s .1 .1 j x (omega arith))))
       go false t u false es et eu ev =
           let nz = eqb-false b 0 es in
           let s = some nz in
           let p : 1 ≤ b = omega arith in
           let l : b ≤ m = ltb-false m b ev in
-          sym (first-is f (max n h) b p (omega (arith, s .0)) (bad b (s .1 .0))
+          sym (first-at f (max n h) b p (omega (arith, s .0)) (bad b (s .1 .0))
           (λ j x y. good j x (omega (arith, s .0)) (omega arith) (s .1 .1 j x y)))
 
 numbers-all : (k : ℕ) (fs : List (List ℕ)) → firstNoNumber (suc k) fs ≡ 0 → (i : ℕ) → i < length fs → isNumber (getD fs i []) ≡ true

@@ -22,9 +22,9 @@ bytes-more : (t : List ℕ) (b : ℕ) → Bytes t → b < 256 → Bytes (t ++ (b
 bytes-more [] b h k = (k, tt)
 bytes-more (x ∷ t) b h k = (h .0, bytes-more t b (h .1) k)
 
-fed-one : (t : List ℕ) (b : ℕ) → fedByte (fedBytes startLine t) b ≡ fedBytes startLine (t ++ (b ∷ []))
+fed-byte : (t : List ℕ) (b : ℕ) → fedByte (fedBytes startLine t) b ≡ fedBytes startLine (t ++ (b ∷ []))
 unfolding fedBytes
-fed-one t b = sym (fed-append startLine t (b ∷ []))
+fed-byte t b = sym (fed-append startLine t (b ∷ []))
 
 fed-none : startLine ≡ fedBytes startLine []
 unfolding fedBytes
@@ -36,7 +36,7 @@ unfolding answers linesMean
 lines-answer [] t ht hb few = answer-means t ht (omega arith)
 lines-answer (b ∷ bs) t ht hb few =
     go (eqb b 10) (answer-means t ht (omega arith)) (ap (λ l. answers l bs) fed-none ∙ lines-answer bs [] tt (hb .1) (omega arith))
-    (ap (λ l. answers l bs) (fed-one t b)
+    (ap (λ l. answers l bs) (fed-byte t b)
     ∙ lines-answer bs (t ++ (b ∷ [])) (bytes-more t b ht (hb .0)) (hb .1) (omega (arith, length-append t (b ∷ []))))
   where
     go : (s : Bool) → answerOf (fedBytes startLine t) ≡ lineMeans t → answers startLine bs ≡ linesMean [] bs

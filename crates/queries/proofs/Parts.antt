@@ -17,9 +17,9 @@ use Rattle.queries.specs.Reading.{startLine, fedByte, fedBytes}
 use Rattle.queries.specs.Answer.{answerOf}
 use Rattle.queries.specs.Serve.{Run, oneMoreUsed, servedPart, ServedAs, LineEnd}
 
-pub none-more : (input : List ℕ) (from k : ℕ) → ((i : ℕ) → from ≤ i → i < k → getD input i 0 ≡ 10 → ⊥) → (getD input k 0 ≡ 10 → ⊥)
+pub no-newline-more : (input : List ℕ) (from k : ℕ) → ((i : ℕ) → from ≤ i → i < k → getD input i 0 ≡ 10 → ⊥) → (getD input k 0 ≡ 10 → ⊥)
     → (i : ℕ) → from ≤ i → i < k + 1 → getD input i 0 ≡ 10 → ⊥
-none-more input from k r n i a b e = go (eqb i k) refl
+no-newline-more input from k r n i a b e = go (eqb i k) refl
   where
     go : (t : Bool) → eqb i k ≡ t → ⊥
     go true p = n (rw (← eqb-true i k p) e)

@@ -10,6 +10,7 @@ use lib.Dec.{eqb}
 use lib.ListN.{length, length-append}
 use borrow.Author.Tests.{eqb-true, eqb-false, lt-ltb}
 use Rattle.model.specs.Search.{orElse}
+use Rattle.model.proofs.Tests.{clash}
 use Rattle.queries.specs.declared.reading.Reading.{Reading}
 use Rattle.queries.specs.Reading.{lettered, figured, oneMore, noDigits, plainRead}
 use Rattle.queries.specs.Meaning.{isDigit, isEmpty, untilSpace, fieldsOf, allDigits, isNumber}
@@ -88,20 +89,17 @@ new-some : (fs : List (List ℕ)) → isNone (fs ++ ([] ∷ [])) ≡ false
 new-some [] = refl
 new-some (f ∷ fs) = refl
 
-clash : true ≡ false → ⊥
-clash e = let z : _≡_ {A = ℕ} 0 1 = cc in absurd (omega arith)
-
 value-cons : (f : List ℕ) (fs : List (List ℕ)) → isNone fs ≡ false → lastValue (f ∷ fs) ≡ lastValue fs
-value-cons f [] e = absurd (clash e)
+value-cons f [] e = absurd (clash refl e)
 value-cons f (g ∷ fs) e = refl
 
 empty-cons : (f : List ℕ) (fs : List (List ℕ)) → isNone fs ≡ false → lastEmpty (f ∷ fs) ≡ lastEmpty fs
-empty-cons f [] e = absurd (clash e)
+empty-cons f [] e = absurd (clash refl e)
 empty-cons f (g ∷ fs) e = refl
 
 bad-cons : (j : ℕ) (f : List ℕ) (fs : List (List ℕ)) → isNone fs ≡ false
     → badSoFar j (f ∷ fs) ≡ cond (isNumber f) (badSoFar (suc j) fs) (suc j)
-bad-cons j f [] e = absurd (clash e)
+bad-cons j f [] e = absurd (clash refl e)
 bad-cons j f (g ∷ fs) e = refl
 
 -- a space: a new field, empty so far

@@ -15,7 +15,7 @@ use Rattle.model.specs.Rows.{miscounted, tasksRows, demandReply, checkReply, le
 use Rattle.queries.specs.declared.ask.Word.{Word}
 use Rattle.queries.specs.declared.ask.Word.the-variants.{Supply, Demand, Check, Least, Best}
 use Rattle.queries.specs.Answer.{periodsOf, costsOf, periods, costs, replyOf}
-use Rattle.queries.specs.Meaning.{heads, everyOther, replyTo, replyWith}
+use Rattle.queries.specs.Meaning.{heads, everyOther, wordReply, replyWith}
 use Rattle.queries.proofs.Readings.{capped}
 use Rattle.queries.proofs.Kept.{Kept, valueAt}
 use Rattle.queries.proofs.AlikeTasks.{rows-30}
@@ -105,7 +105,7 @@ module _ (ps es ps′ es′ : List ℕ) (X X′ : Reply) where
   both-many h h′ = rows-30 ps es X (too-many ps es h) ∙ sym (rows-30 ps′ es′ X′ (too-many ps′ es′ h′))
 
 many-reply : (w : Word) (a b c : ℕ) (ps es ps′ es′ : List ℕ) → 16 < length ps → 16 < length ps′
-    → replyTo w a b c ps es ≡ replyTo w a b c ps′ es′
+    → wordReply w a b c ps es ≡ wordReply w a b c ps′ es′
 unfolding demandReply checkReply leastReply bestReply
 many-reply Supply a b c ps es ps′ es′ h h′ = refl
 many-reply Demand a b c ps es ps′ es′ h h′ = both-many ps es ps′ es′ _ _ h h′
@@ -133,25 +133,25 @@ module _ (fs : List (List ℕ)) (odd even : List ℕ) (k : Kept fs odd even) whe
   long-all : (h : ℕ) → 34 < length fs - h → 16 < length (everyOther true (drop h (values fs)))
   long-all h l = omega (arith, every-length true (drop h (values fs)), length-drop h (values fs), length-map fs (capped 0))
 
-  behind-two : (w : Word) (a b c : ℕ) → 2 ≤ length fs
-      → replyTo w a b c (periods 2 (length fs - 2) odd even) (costs 2 (length fs - 2) odd even)
-      ≡ replyTo w a b c (everyOther true (drop 2 (values fs))) (everyOther false (drop 2 (values fs)))
-  behind-two w a b c h = go (few-or-many (length fs - 2))
+  kept-two : (w : Word) (a b c : ℕ) → 2 ≤ length fs
+      → wordReply w a b c (periods 2 (length fs - 2) odd even) (costs 2 (length fs - 2) odd even)
+      ≡ wordReply w a b c (everyOther true (drop 2 (values fs))) (everyOther false (drop 2 (values fs)))
+  kept-two w a b c h = go (few-or-many (length fs - 2))
     where
       go : (length fs - 2 ≤ 34) ⊎ (34 < length fs - 2)
-          → replyTo w a b c (periods 2 (length fs - 2) odd even) (costs 2 (length fs - 2) odd even)
-          ≡ replyTo w a b c (everyOther true (drop 2 (values fs))) (everyOther false (drop 2 (values fs)))
+          → wordReply w a b c (periods 2 (length fs - 2) odd even) (costs 2 (length fs - 2) odd even)
+          ≡ wordReply w a b c (everyOther true (drop 2 (values fs))) (everyOther false (drop 2 (values fs)))
       go (inl s) = rw (periods-two fs odd even k h s, costs-two fs odd even k h s)
       go (inr s) = many-reply w a b c _ _ _ _ (long-two s) (long-all 2 s)
 
-  behind-one : (w : Word) (a b c : ℕ) → 1 ≤ length fs
-      → replyTo w a b c (periods 1 (length fs - 1) odd even) (costs 1 (length fs - 1) odd even)
-      ≡ replyTo w a b c (everyOther true (drop 1 (values fs))) (everyOther false (drop 1 (values fs)))
-  behind-one w a b c h = go (few-or-many (length fs - 1))
+  kept-one : (w : Word) (a b c : ℕ) → 1 ≤ length fs
+      → wordReply w a b c (periods 1 (length fs - 1) odd even) (costs 1 (length fs - 1) odd even)
+      ≡ wordReply w a b c (everyOther true (drop 1 (values fs))) (everyOther false (drop 1 (values fs)))
+  kept-one w a b c h = go (few-or-many (length fs - 1))
     where
       go : (length fs - 1 ≤ 34) ⊎ (34 < length fs - 1)
-          → replyTo w a b c (periods 1 (length fs - 1) odd even) (costs 1 (length fs - 1) odd even)
-          ≡ replyTo w a b c (everyOther true (drop 1 (values fs))) (everyOther false (drop 1 (values fs)))
+          → wordReply w a b c (periods 1 (length fs - 1) odd even) (costs 1 (length fs - 1) odd even)
+          ≡ wordReply w a b c (everyOther true (drop 1 (values fs))) (everyOther false (drop 1 (values fs)))
       go (inl s) = rw (periods-one fs odd even k h s, costs-one fs odd even k h s)
       go (inr s) = many-reply w a b c _ _ _ _ (long-one s) (long-all 1 s)
 
@@ -159,7 +159,7 @@ module _ (fs : List (List ℕ)) (odd even : List ℕ) (k : Kept fs odd even) whe
   pub reply-kept : (w : Word) → heads w ≤ length fs → replyOf w (heads w) (length fs - heads w) odd even ≡ replyWith w (values fs)
   unfolding replyOf
   reply-kept Supply h = rw (at-0, at-1, at-2)
-  reply-kept Demand h = rw (at-0, at-1) (behind-two Demand (getD (values fs) 0 0) (getD (values fs) 1 0) 0 h)
-  reply-kept Check h = rw (at-0, at-1) (behind-two Check (getD (values fs) 0 0) (getD (values fs) 1 0) 0 h)
-  reply-kept Least h = rw at-0 (behind-one Least (getD (values fs) 0 0) 0 0 h)
-  reply-kept Best h = rw at-0 (behind-one Best (getD (values fs) 0 0) 0 0 h)
+  reply-kept Demand h = rw (at-0, at-1) (kept-two Demand (getD (values fs) 0 0) (getD (values fs) 1 0) 0 h)
+  reply-kept Check h = rw (at-0, at-1) (kept-two Check (getD (values fs) 0 0) (getD (values fs) 1 0) 0 h)
+  reply-kept Least h = rw at-0 (kept-one Least (getD (values fs) 0 0) 0 0 h)
+  reply-kept Best h = rw at-0 (kept-one Best (getD (values fs) 0 0) 0 0 h)

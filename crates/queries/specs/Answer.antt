@@ -10,7 +10,7 @@ use Rattle.queries.specs.declared.ask.Word.the-variants.{Supply, Demand,
 use Rattle.queries.specs.declared.ask.Spoken.{Spoken}
 use Rattle.queries.specs.declared.ask.Spoken.the-variants.{Known, Unknown}
 use Rattle.queries.specs.declared.line.Line.{Line}
-use Rattle.queries.specs.Meaning.{heads, replyTo, unlessBad}
+use Rattle.queries.specs.Meaning.{heads, wordReply, unlessBad}
 use Rattle.queries.specs.Reading.{noDigits}
 use Rattle.queries.specs.Text.{said, badWord, lineOf}
 
@@ -54,7 +54,7 @@ abbrev pub costs : ℕ → ℕ → List ℕ → List ℕ → List ℕ
 costs h n odd even = take (costsOf n) (cond (eqb h 2) (drop 2 even) (drop 1 odd))
 
 unfoldable pub replyOf : Word → ℕ → ℕ → List ℕ → List ℕ → Reply
-replyOf w h n odd even = replyTo w (getD odd 0 0) (getD even 1 0) (getD odd 1 0) (periods h n odd even) (costs h n odd even)
+replyOf w h n odd even = wordReply w (getD odd 0 0) (getD even 1 0) (getD odd 1 0) (periods h n odd even) (costs h n odd even)
 
 abbrev pub wordAnswer : Spoken → Line → List ℕ
 wordAnswer Unknown l = said badWord []

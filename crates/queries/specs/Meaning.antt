@@ -92,17 +92,17 @@ everyOther true (x ∷ xs) = x ∷ everyOther false xs
 everyOther false (x ∷ xs) = everyOther true xs
 
 -- what the word asks, with the first three fields and the tasks
-abbrev pub replyTo : Word → ℕ → ℕ → ℕ → List ℕ → List ℕ → Reply
-replyTo Supply a b c ps es = supplyReply a b c
-replyTo Demand a b c ps es = demandReply ps es a b
-replyTo Check a b c ps es = checkReply ps es a b
-replyTo Least a b c ps es = leastReply ps es a
-replyTo Best a b c ps es = bestReply ps es a
+abbrev pub wordReply : Word → ℕ → ℕ → ℕ → List ℕ → List ℕ → Reply
+wordReply Supply a b c ps es = supplyReply a b c
+wordReply Demand a b c ps es = demandReply ps es a b
+wordReply Check a b c ps es = checkReply ps es a b
+wordReply Least a b c ps es = leastReply ps es a
+wordReply Best a b c ps es = bestReply ps es a
 
 -- what the word asks, with these numbers as its fields: behind its own fields a period and a cost after the other
 abbrev pub replyWith : Word → List ℕ → Reply
 replyWith w ns =
-    replyTo w (getD ns 0 0) (getD ns 1 0) (getD ns 2 0) (everyOther true (drop (heads w) ns)) (everyOther false (drop (heads w) ns))
+    wordReply w (getD ns 0 0) (getD ns 1 0) (getD ns 2 0) (everyOther true (drop (heads w) ns)) (everyOther false (drop (heads w) ns))
 
 -- bad field and its place, unless that is 0
 abbrev pub unlessBad : ℕ → List ℕ → List ℕ

@@ -106,12 +106,12 @@ evenKept even k value = cond (leb k 37 && not (eqb (k % 2) 1)) (set even (k / 2)
 abbrev pub startLine : Line
 startLine = record { odd = replicate 19 0; even = replicate 19 0; reading = startReading }
 
-abbrev pub kept : List ℕ → List ℕ → Reading → Line
-kept odd even r = record { odd = oddKept odd (r .count) (r .value); even = evenKept even (r .count) (r .value); reading = r }
+abbrev pub keptLine : List ℕ → List ℕ → Reading → Line
+keptLine odd even r = record { odd = oddKept odd (r .count) (r .value); even = evenKept even (r .count) (r .value); reading = r }
 
 -- a line with one byte more
 unfoldable pub fedByte : Line → ℕ → Line
-fedByte l b = kept (l .odd) (l .even) (byteRead (l .reading) b)
+fedByte l b = keptLine (l .odd) (l .even) (byteRead (l .reading) b)
 
 -- a line with more bytes behind it
 unfoldable pub fedBytes : Line → List ℕ → Line

@@ -10,7 +10,7 @@ ghost use mathlib.Core.Path.{_≡_};
 ghost use Prim.Native.Nat.{_+_, _≤_, _<_};
 ghost use Rattle.queries.specs.Text.{textOf, lineOf};
 ghost use Rattle.queries.specs.Answer.{firstBad, most as mostOf, wordOf, periodsOf, costsOf, replyOf, isBlank, answerOf};
-ghost use Rattle.queries.specs.Meaning.{replyTo, heads as headsOf};
+ghost use Rattle.queries.specs.Meaning.{wordReply, heads as headsOf};
 
 pub(crate) enum Word {
     Supply,
@@ -119,7 +119,7 @@ fn costs_of(n: usize) -> usize
 
 // What the word asks, with the first three fields and the tasks.
 fn put_to_shares(word: Word, a: u32, b: u32, c: u32, periods: &[u32], costs: &[u32]) -> Answer
-    ensures { λ r. ⌜ textOf r ≡ lineOf (replyTo word a b c (now (periods .entry)) (now (costs .entry))) ⌝ }
+    ensures { λ r. ⌜ textOf r ≡ lineOf (wordReply word a b c (now (periods .entry)) (now (costs .entry))) ⌝ }
 {
     match word {
         Word::Supply => of_ticks(shares::supply(a, b, c)),

@@ -2,7 +2,7 @@
 use crate::ask::asked;
 use crate::reading::Reading;
 use crate::write::LONGEST_ANSWER;
-use crate::write::written;
+use crate::write::put_line;
 ghost use mathlib.Core.Path.{_≡_};
 ghost use Rattle.queries.specs.Reading.{oddKept, evenKept, startLine, fedBytes};
 ghost use Rattle.queries.specs.Text.{Written};
@@ -70,7 +70,7 @@ impl Line {
     pub fn answer(self, out: &mut [u8; LONGEST_ANSWER]) -> usize
         ensures { λ r. ⌜ Written (answerOf self) (now (out .entry)) (now (out .exit)) r ⌝ }
     {
-        written(asked(self), out)
+        put_line(asked(self), out)
     }
 }
 

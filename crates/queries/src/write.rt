@@ -39,7 +39,7 @@ fn put_end(out: &mut [u8; LONGEST_ANSWER], at: usize) -> usize
     at + 1
 }
 
-pub(crate) fn written(answer: Answer, out: &mut [u8; LONGEST_ANSWER]) -> usize
+pub(crate) fn put_line(answer: Answer, out: &mut [u8; LONGEST_ANSWER]) -> usize
     ensures { λ r. ⌜ Written (textOf answer) (now (out .entry)) (now (out .exit)) r ⌝ }
 {
     match answer {

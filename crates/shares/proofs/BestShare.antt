@@ -13,7 +13,7 @@ use Rattle.model.specs.Search.{first}
 use Rattle.model.specs.Share.{Share, passes, leastOf, better, bestOf}
 use Rattle.model.proofs.Tests.{below-or-from}
 use Rattle.model.proofs.Places.{Smallest, first-smallest, first-at, first-none}
-use Rattle.shares.specs.Table.{Offered, capOf, replacedBy}
+use Rattle.shares.specs.Private.{Offered, capOf, replacedBy}
 
 pub cap-none : (s : Share) (P : ℕ) → s .budget ≡ 0 → capOf s P ≡ P
 unfolding capOf

@@ -13,7 +13,7 @@ use Rattle.model.specs.Search.{first}
 use Rattle.model.specs.Share.{meets, passes}
 use Rattle.model.proofs.Tests.{below-or-from, tested, clash}
 use Rattle.model.proofs.Places.{everywhere-has, everywhere-all, first-agrees, Smallest, first-smallest}
-use Rattle.shares.specs.Table.{Tasks, NoneUpTo}
+use Rattle.shares.specs.Private.{Tasks, NoneUpTo}
 use Rattle.shares.proofs.Walk.{meets-grows}
 
 module _ (P : ℕ) (ps es : List ℕ) (tasks : Tasks ps es) where

@@ -7,7 +7,7 @@ use native.Mathlib.Omega.{arith}
 use native.Mathlib.Nat.{le-trans, le-refl, mul-le-mul, mul-le-mul-left, mul-le-mul-right, div-mul-le-self, le-div-iff-mul-le}
 use lib.ListN.{length, getD}
 use Rattle.model.specs.Demand.{ceil, demandOf}
-use Rattle.shares.specs.Table.{Tasks, longest}
+use Rattle.shares.specs.Private.{Tasks, longest}
 use Rattle.shares.proofs.Numbers.{div-mono}
 
 pub demand-longer : (ps es : List ℕ) (i t u : ℕ) → t ≤ u → demandOf ps es i t ≤ demandOf ps es i u

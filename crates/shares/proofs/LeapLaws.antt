@@ -10,7 +10,7 @@ use lib.ListN.{length, getD, set, replicate, length-set}
 use lib.Seq.{getD-set-same, getD-set-other}
 use Rattle.model.specs.Demand.{demandOf}
 use Rattle.model.proofs.Tests.{below-or-from}
-use Rattle.shares.specs.Table.{Tasks, NoneSpares, Leaps, leapOf}
+use Rattle.shares.specs.Private.{Tasks, NoneSpares, Leaps, leapOf}
 use Rattle.shares.proofs.DemandCurve.{demand-longer}
 
 pub leap-far : (leaps : List ℕ) (i d s : ℕ) → 2000 < s → leapOf leaps i d s ≡ 2001

@@ -15,7 +15,7 @@ use Rattle.model.specs.Rows.{within, inRange, miscounted, outOfRange, falls, ta
 use Rattle.model.proofs.Tests.{or-right, and-both, or-neither}
 use Rattle.model.proofs.Places.{NoneOf, first-at, first-none, first-smallest}
 use Rattle.model.proofs.Replies.{in-range}
-use Rattle.shares.specs.Table.{Tasks, longest, Filled, Leaps, Ready}
+use Rattle.shares.specs.Private.{Tasks, longest, Filled, Leaps, Ready}
 
 -- a loop that looks at place 1, 2, .. and leaves at the first that has the test: what it knows after i places
 pub none-yet : (f : ℕ → Bool) → NoneOf f 0

@@ -10,7 +10,7 @@ use lib.ListN.{length, getD, set}
 use lib.Seq.{getD-set-same, getD-set-other}
 use Rattle.model.specs.Demand.{ceil, demandOf}
 use Rattle.model.proofs.Tests.{below-or-from}
-use Rattle.shares.specs.Table.{Cells}
+use Rattle.shares.specs.Private.{Cells}
 
 -- the term of the task at i, on the sum of those before it
 pub demand-next : (ps es : List ℕ) (i t : ℕ) → demandOf ps es (i + 1) t ≡ demandOf ps es i t + ceil t (getD ps i 0) * getD es i 0

@@ -16,7 +16,7 @@ use Rattle.model.specs.Demand.{demandOf}
 use Rattle.model.specs.Share.{enough, meets, passes}
 use Rattle.model.proofs.Tests.{below-or-from, and-true, and-right, and-left}
 use Rattle.model.proofs.Places.{somewhere-at, nowhere, everywhere-at, everywhere-all, somewhere-grows, first-at, first-none}
-use Rattle.shares.specs.Table.{Tasks}
+use Rattle.shares.specs.Private.{Tasks}
 use Rattle.shares.proofs.SupplyCurve.{waitedOf, reachOf, waited-grows, reached, reaches, supply-grows}
 use Rattle.shares.proofs.DemandCurve.{demand-longer, demand-more, demand-some}
 

@@ -22,7 +22,7 @@ ghost use Prim.Native.Nat.{_≤_, _<_};
 ghost use lib.ListN.{length};
 ghost use Rattle.model.specs.Demand.{demandOf};
 ghost use Rattle.model.specs.Rows.{supplyReply, demandReply, checkReply, leastReply, bestReply};
-ghost use Rattle.shares.specs.Table.{Tasks};
+ghost use Rattle.shares.specs.Private.{Tasks};
 ghost use Rattle.shares.specs.Paper.{paperTicks, paperVerdict, paperBudget, paperInterface};
 
 fn refusal(number: u32) -> Refusal

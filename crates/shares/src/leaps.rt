@@ -10,7 +10,7 @@ ghost use mathlib.Core.Path.{_≡_};
 ghost use Prim.Native.Nat.{_+_, _*_, _-_, _≤_, _<_};
 ghost use lib.ListN.{length, getD};
 ghost use Rattle.model.specs.Demand.{demandOf};
-ghost use Rattle.shares.specs.Table.{Tasks, Filled, Leaps, Entering, longest, leapOf};
+ghost use Rattle.shares.specs.Private.{Tasks, Filled, Leaps, Entering, longest, leapOf};
 
 // What stands where there is no length: one above the longest.
 const NO_LENGTH: u32 = LONGEST + 1;

@@ -12,7 +12,7 @@ ghost use Prim.Native.Nat.{_+_, _≤_, _<_};
 ghost use Rattle.model.specs.Search.{first};
 ghost use Rattle.model.specs.Share.{passes, bestOf};
 ghost use Rattle.shares.specs.Paper.{paperShare};
-ghost use Rattle.shares.specs.Table.{Ready, NoneUpTo, Offered, capOf, replacedBy};
+ghost use Rattle.shares.specs.Private.{Ready, NoneUpTo, Offered, capOf, replacedBy};
 
 // The first budget from `from` to `to` that passes, 0 where none does. Loops over budgets, tasks and
 // lengths, as document 01 names them. A length that supplies too little is left for the next that may have

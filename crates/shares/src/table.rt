@@ -6,7 +6,7 @@ ghost use mathlib.Core.Path.{_≡_};
 ghost use Prim.Native.Nat.{_+_, _*_, _-_, _/_, _≤_};
 ghost use lib.ListN.{length};
 ghost use Rattle.model.specs.Demand.{ceil};
-ghost use Rattle.shares.specs.Table.{Tasks, Filled, longest};
+ghost use Rattle.shares.specs.Private.{Tasks, Filled, longest};
 
 // The lengths from 0 to the longest.
 pub(crate) const LENGTHS: usize = LONGEST as usize + 1;

@@ -1,5 +1,5 @@
 -- `line_end` finds the first newline. Assumes nothing.
-use Rattle.queries.proofs.Parts.{none-more}
+use Rattle.queries.proofs.Parts.{no-newline-more}
 use lib.ListN.{length, getD}
 use native.Mathlib.Omega.{arith}
 use mathlib.Core.Path.{_≡_}
@@ -34,7 +34,7 @@ loop-again : tie.Need-loop-again Inv-loop μ-loop
 loop-again c =
     let a = c .before .before .before .before .args in
     let l = c .before .before .before .loop in
-    (omega arith, (omega arith, none-more (a .input .now) (a .from) (l .k) (l .inv .1 .1) (c .if1 .left)))
+    (omega arith, (omega arith, no-newline-more (a .input .now) (a .from) (l .k) (l .inv .1 .1) (c .if1 .left)))
 
 returns-2 : tie.Need-returns-2 Inv-loop μ-loop
 returns-2 c = record { low = omega arith; high = omega arith; newline = λ h. absurd (omega arith); none = c .before .loop .inv .1 .1 }

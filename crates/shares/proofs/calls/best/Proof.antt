@@ -5,7 +5,7 @@ use Rattle.model.specs.Share.{Share, bestOf}
 use Rattle.model.specs.Reply.{gives}
 use Rattle.model.specs.Rows.{within, tasksRow, bestReply}
 use Rattle.model.proofs.Replies.{is-within}
-use Rattle.shares.specs.Table.{Tasks}
+use Rattle.shares.specs.Private.{Tasks}
 use Rattle.shares.proofs.RowLaws.{tasks-fit, ready}
 use Rattle.shares.proofs.ReplyLaws.{refused-row, refused-33, refused-34, given}
 use lib.ListN.{length-replicate}

@@ -3,7 +3,7 @@
 use borrow.Author.Needs.{needs}
 use Rattle.model.specs.Rows.{inRange, tasksRow, checkReply}
 use Rattle.model.proofs.Replies.{in-range}
-use Rattle.shares.specs.Table.{Tasks}
+use Rattle.shares.specs.Private.{Tasks}
 use Rattle.shares.proofs.Budgets.{one-fails, one-passes}
 use Rattle.shares.proofs.RowLaws.{tasks-fit, ready}
 use Rattle.shares.proofs.LeapLaws.{leaps-zero, zeros}

@@ -1,7 +1,7 @@
 -- `fill_leaps` enters every task. The invariant: the tasks passed are entered. Assumes nothing.
 use borrow.Author.Needs.{needs}
 use Rattle.shares.proofs.LeapLaws.{leaps-none}
-use Rattle.shares.specs.Table.{Leaps}
+use Rattle.shares.specs.Private.{Leaps}
 use lib.ListN.{length}
 use native.Mathlib.Omega.{arith}
 use mathlib.Core.Path.{_≡_, subst}

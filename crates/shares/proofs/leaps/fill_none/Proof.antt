@@ -1,7 +1,7 @@
 -- `fill_none` enters 2001 for the ticks that no length has to spare. The invariant: what is entered is right. Assumes nothing.
 use borrow.Author.Needs.{needs}
 use Rattle.shares.proofs.LeapLaws.{leaps-more, none-more-spare, none-beyond}
-use Rattle.shares.specs.Table.{Leaps}
+use Rattle.shares.specs.Private.{Leaps}
 use lib.ListN.{getD}
 use native.Mathlib.Omega.{arith}
 use mathlib.Core.Path.{_≡_, subst}

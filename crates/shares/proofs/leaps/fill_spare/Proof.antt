@@ -2,7 +2,7 @@
 -- Assumes nothing.
 use borrow.Author.Needs.{needs}
 use Rattle.model.specs.Demand.{demandOf}
-use Rattle.shares.specs.Table.{Entering}
+use Rattle.shares.specs.Private.{Entering}
 use Rattle.shares.proofs.LeapLaws.{leaps-more, none-longer, none-more-spare}
 use Rattle.shares.proofs.DemandCurve.{demand-most}
 use Rattle.shares.proofs.TableLaws.{demand-next}

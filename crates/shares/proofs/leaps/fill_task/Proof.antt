@@ -1,7 +1,7 @@
 -- `fill_task` enters one task. The invariant: what the lengths passed have to spare is entered. Assumes nothing.
 use borrow.Author.Needs.{needs}
 use Rattle.model.specs.Demand.{demandOf}
-use Rattle.shares.specs.Table.{Entering, Leaps}
+use Rattle.shares.specs.Private.{Entering, Leaps}
 use Rattle.shares.proofs.TableLaws.{cell-at}
 use Rattle.shares.proofs.DemandCurve.{demand-some, under-longest}
 use lib.ListN.{getD}

@@ -1,4 +1,4 @@
--- `leap` is the leap of specs/Table.antt. Assumes nothing.
+-- `leap` is the leap of specs/Private.antt. Assumes nothing.
 use borrow.Author.Needs.{needs}
 use Rattle.shares.proofs.LeapLaws.{leap-far, leap-near}
 use native.Mathlib.Nat.{max-eq-left, max-eq-right}

@@ -3,7 +3,7 @@ use borrow.Author.Needs.{needs}
 use Rattle.model.specs.Share.{Share, passes, bestOf}
 use Rattle.model.specs.Search.{first}
 use Rattle.shares.specs.Paper.{paperShare}
-use Rattle.shares.specs.Table.{Offered, replacedBy}
+use Rattle.shares.specs.Private.{Offered, replacedBy}
 use Rattle.shares.proofs.BestShare.{cap-most, best-next, best-offered}
 use native.Mathlib.Omega.{arith}
 use mathlib.Core.Path.{_≡_, refl, sym, _∙_, ap, subst}

@@ -1,4 +1,4 @@
--- `cap_of` is the cap of specs/Table.antt. Assumes nothing.
+-- `cap_of` is the cap of specs/Private.antt. Assumes nothing.
 use Rattle.shares.specs.Paper.{paperShare}
 use Rattle.shares.proofs.BestShare.{cap-none, cap-some}
 use native.Mathlib.Nat.{mul-le-mul}

@@ -2,7 +2,7 @@
 -- that the budget, and within the lengths the task, is the one that the loop began with. Assumes nothing.
 use borrow.Author.Needs.{needs}
 use Rattle.model.specs.Demand.{demandOf}
-use Rattle.shares.specs.Table.{Ready, longest, leapOf}
+use Rattle.shares.specs.Private.{Ready, longest, leapOf}
 use Rattle.shares.proofs.Walk.{Walk, NoneBetween, walk-start, walk-met, walk-jump, walk-fails, walk-none, walk-found}
 use Rattle.shares.proofs.LeapLaws.{leap-none, leap-least}
 use Rattle.shares.proofs.TableLaws.{cell-at}

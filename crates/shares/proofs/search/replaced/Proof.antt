@@ -1,4 +1,4 @@
--- `replaced` is the share of specs/Table.antt. Assumes nothing.
+-- `replaced` is the share of specs/Private.antt. Assumes nothing.
 use Rattle.shares.specs.Paper.{paperShare}
 use Rattle.shares.proofs.BestShare.{replaced-none, replaced-some}
 use mathlib.Core.Path.{sym}

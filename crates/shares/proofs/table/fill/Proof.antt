@@ -2,7 +2,7 @@
 use borrow.Author.Needs.{needs}
 use Rattle.shares.proofs.TableLaws.{cells-none}
 use Rattle.shares.proofs.DemandCurve.{longest-most}
-use Rattle.shares.specs.Table.{Filled, longest}
+use Rattle.shares.specs.Private.{Filled, longest}
 use native.Mathlib.Omega.{arith}
 use mathlib.Core.Path.{_≡_, subst}
 use Prim.Native.Nat.{ℕ, _+_, _*_, _-_, _≤_}

@@ -2,7 +2,7 @@
 -- Assumes nothing.
 use borrow.Author.Needs.{needs}
 use Rattle.model.specs.Demand.{demandOf}
-use Rattle.shares.specs.Table.{Cells}
+use Rattle.shares.specs.Private.{Cells}
 use Rattle.shares.proofs.TableLaws.{demand-next, cells-more, cells-padded}
 use Rattle.shares.proofs.DemandCurve.{demand-most}
 use lib.ListN.{length, length-set}

@@ -1,7 +1,6 @@
 -- `released` is the definition of its name. Assumes nothing.
 use Rattle.queries.proofs.Steps.{released-held, released-free}
 use mathlib.Core.Path.{sym, _∙_}
--- `released` is the definition of its name. Assumes nothing.
 use borrow.Author.Needs.{needs}
 use Rattle.queries.proofs.reading.Reading.released.Statement.{statement}
 use Rattle.queries.proofs.reading.Reading.released.Tie as tie

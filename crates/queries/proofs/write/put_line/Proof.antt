@@ -1,10 +1,10 @@
--- `written` writes an answer part after part: what was put stands in one piece. Assumes nothing.
+-- `put_line` writes an answer part after part: what was put stands in one piece. Assumes nothing.
 use Rattle.text.proofs.Writing.{put-two}
 use Rattle.queries.proofs.Writing.{put-answer}
 use native.Mathlib.Omega.{arith}
 use borrow.Author.Needs.{needs}
-use Rattle.queries.proofs.write.written.Statement.{statement}
-use Rattle.queries.proofs.write.written.Tie as tie
+use Rattle.queries.proofs.write.put_line.Statement.{statement}
+use Rattle.queries.proofs.write.put_line.Tie as tie
 
 enum-told : tie.Need-enum-told
 enum-told c = search needs
@@ -148,8 +148,8 @@ returns-6 c =
     (put-two (first .before .before .put5 .ensures)
     (put-two (first .put-field5 .ensures .0) (put-two (second .put-field6 .ensures .0) (c .put-end5 .ensures))))
 
-pub written-spec : {M : Type 1} → statement M
-written-spec =
+pub put-line-spec : {M : Type 1} → statement M
+put-line-spec =
     tie.close
     (tie.spec
     enum-told
