@@ -47,8 +47,7 @@ fn append(out: &mut [u8], at: usize, text: &[u8; LONGEST_ANSWER], n: usize)
 // Reads on with the line that has begun, and puts the answer to each line that ends behind the one
 // before. It stops before a newline where an answer may find no room.
 pub fn serve(start: Line, input: &[u8], out: &mut [u8]) -> Served
-    ensures { λ r. ⌜ ServedAs (servedPart (length (now (out .entry))) start [] (now (input .entry)))
-        (now (input .entry)) (now (out .entry)) (now (out .exit)) r ⌝ }
+    ensures { λ r. ⌜ ServedAs (servedPart (length (now (out .entry))) start [] (now (input .entry))) (now (input .entry)) (now (out .entry)) (now (out .exit)) r ⌝ }
 {
     let mut line = start;
     let mut count = 0;

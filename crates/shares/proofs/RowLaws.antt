@@ -8,11 +8,11 @@ use mathlib.Core.Logic.{_⊎_, inl, inr}
 use native.Mathlib.Omega.{arith}
 use native.Mathlib.Nat.{le-suc-iff}
 use lib.Dec.{ltb, leb, eqb}
-use borrow.Author.Tests.{lt-ltb, le-ltb, le-leb, lt-leb, eq-eqb, ne-eqb, leb-true, ltb-false, eqb-true, not-false}
+use borrow.Author.Tests.{lt-ltb, le-ltb, le-leb, lt-leb, leb-true, ltb-false, eqb-true, not-false}
 use lib.ListN.{length, getD}
 use Rattle.model.specs.Search.{first}
-use Rattle.model.specs.Rows.{within, inRange, miscounted, outOfRange, falls, tasksRow}
-use Rattle.model.proofs.Tests.{or-right, and-both, or-neither}
+use Rattle.model.specs.Rows.{inRange, miscounted, outOfRange, falls, tasksRow}
+use Rattle.model.proofs.Tests.{and-both, or-neither}
 use Rattle.model.proofs.Places.{NoneOf, first-at, first-none, first-smallest}
 use Rattle.model.proofs.Replies.{in-range}
 use Rattle.shares.specs.Private.{Tasks, longest, Filled, Leaps, Ready}
@@ -56,28 +56,28 @@ by-count : (ps es : List ℕ) → tasksRow ps es ≡ cond (miscounted ps es) 30 
 unfolding tasksRow late
 by-count ps es = refl
 
-pub row-empty : (ps es : List ℕ) → length ps ≡ 0 → 30 ≡ tasksRow ps es
-row-empty ps es h =
-    let m : miscounted ps es ≡ true = rw h in
-    sym (by-count ps es ∙ rw m)
+pub row-count : (ps es : List ℕ) → miscounted ps es ≡ true → 30 ≡ tasksRow ps es
+row-count ps es m = sym (by-count ps es ∙ rw m)
 
-pub row-many : (ps es : List ℕ) → 16 < length ps → 30 ≡ tasksRow ps es
-row-many ps es h =
-    let m : miscounted ps es ≡ true = rw (le-leb 1 (length ps) (omega arith)) (rw (lt-leb (length ps) 16 h)) in
-    sym (by-count ps es ∙ rw m)
+-- the three ways to be miscounted, and what is known where none is met
+pub count-empty : (ps es : List ℕ) → length ps ≡ 0 → miscounted ps es ≡ true
+count-empty ps es h = rw h
 
-pub row-unpaired : (ps es : List ℕ) → (length ps ≡ length es → ⊥) → 30 ≡ tasksRow ps es
-row-unpaired ps es h =
-    let m : miscounted ps es ≡ true =
-    or-right (not (within (length ps) 16)) (not (eqb (length ps) (length es))) (rw (ne-eqb (length ps) (length es) h)) in
-    sym (by-count ps es ∙ rw m)
+pub count-many : (ps es : List ℕ) → 16 < length ps → miscounted ps es ≡ true
+count-many ps es h = rw (le-leb 1 (length ps) (omega arith)) (rw (lt-leb (length ps) 16 h))
 
-module _ (ps es : List ℕ) (some-task : 1 ≤ length ps) (few : length ps ≤ 16) (paired : length ps ≡ length es) where
+pub count-fits : (ps es : List ℕ) → 1 ≤ length ps → length ps ≤ 16 → miscounted ps es ≡ not (eqb (length ps) (length es))
+count-fits ps es some-task few = rw (le-leb 1 (length ps) some-task) (rw (le-leb (length ps) 16 few))
+
+pub counts : (ps es : List ℕ) → miscounted ps es ≡ false → (1 ≤ length ps) × (length ps ≤ 16) × (length ps ≡ length es)
+counts ps es m =
+    let parts = or-neither _ _ m in
+    let count = and-both (leb 1 (length ps)) (leb (length ps) 16) (not-false _ (parts .0)) in
+    (leb-true _ _ (count .0), leb-true _ _ (count .1), eqb-true _ _ (not-false _ (parts .1)))
+
+module _ (ps es : List ℕ) (m : miscounted ps es ≡ false) where
   counted : tasksRow ps es ≡ late ps es
-  counted =
-      let m : miscounted ps es ≡ false =
-      rw (le-leb 1 (length ps) some-task) (rw (le-leb (length ps) 16 few) (rw (eq-eqb (length ps) (length es) paired))) in
-      by-count ps es ∙ rw m
+  counted = by-count ps es ∙ rw m
 
   pub row-range : 0 < first (outOfRange ps es) (length ps) → 31 ≡ tasksRow ps es
   unfolding late
@@ -99,12 +99,11 @@ module _ (ps es : List ℕ) (m : miscounted ps es ≡ false)
 
   as-tasks : Tasks ps es
   as-tasks =
-      let parts = or-neither _ _ m in
-      let count = and-both (leb 1 (length ps)) (leb (length ps) 16) (not-false _ (parts .0)) in
+      let count = counts ps es m in
       record {
-        some-task = leb-true _ _ (count .0);
-        few = leb-true _ _ (count .1);
-        paired = sym (eqb-true _ _ (not-false _ (parts .1)));
+        some-task = count .0;
+        few = count .1;
+        paired = sym (count .2);
         period-least = λ i h. ranges i h .0 .0;
         period-most = λ i h. ranges i h .0 .1;
         cost-least = λ i h. ranges i h .1 .0;

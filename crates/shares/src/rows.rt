@@ -3,7 +3,7 @@ ghost use mathlib.Core.Path.{_≡_};
 ghost use Prim.Native.Nat.{_≤_};
 ghost use lib.ListN.{length};
 ghost use Rattle.model.specs.Search.{first};
-ghost use Rattle.model.specs.Rows.{within, inRange, outOfRange, falls, tasksRow};
+ghost use Rattle.model.specs.Rows.{within, inRange, miscounted, outOfRange, falls, tasksRow};
 
 pub(crate) const MOST_TASKS: usize = 16;
 
@@ -21,6 +21,14 @@ pub(crate) fn is_in_range(p: u32, b: u32) -> bool
     ensures { λ r. ⌜ r ≡ inRange p b ⌝ }
 {
     is_within(p, LONGEST) && is_within(b, p)
+}
+
+// No tasks, more than 16, or as many periods as costs don't stand (row 30).
+fn is_miscounted(periods: &[u32], costs: &[u32]) -> bool
+    ensures { λ r. ⌜ r ≡ miscounted (now (periods .entry)) (now (costs .entry)) ⌝ }
+{
+    let n = periods.len();
+    n == 0 || MOST_TASKS < n || n != costs.len()
 }
 
 // The first place, from 1, of a task whose numbers are out of range (row 31); 0 where there is none.
@@ -54,14 +62,7 @@ fn first_fall(periods: &[u32]) -> usize
 pub(crate) fn tasks_row(periods: &[u32], costs: &[u32]) -> u32
     ensures { λ r. ⌜ r ≡ tasksRow (now (periods .entry)) (now (costs .entry)) ⌝ }
 {
-    let n = periods.len();
-    if n == 0 {
-        return 30;
-    }
-    if MOST_TASKS < n {
-        return 30;
-    }
-    if n != costs.len() {
+    if is_miscounted(periods, costs) {
         return 30;
     }
     if 0 < first_out_of_range(periods, costs) {
