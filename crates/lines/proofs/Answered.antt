@@ -181,7 +181,8 @@ all-answered before s last = go (a .stop) refl
     a : Answered before s last run
     a = answered before s last none
 
-    told : (askedAfter before s .calls ≡ a .calls) × (answeredNow last (askedAfter before s .refusal) ≡ a .stop) → AllAnswered before s last
+    told : (askedAfter before s .calls ≡ a .calls) × (answeredNow last (askedAfter before s .refusal) ≡ a .stop)
+        → AllAnswered before s last
     told e =
         record {
           core-is = a .core-is ∙ ap made (sym (e .0));

@@ -26,7 +26,7 @@ use Rattle.records.specs.declared.answers.Read.the-variants.{Event as Got, No}
 use Rattle.records.specs.Bytes.{AreBytes}
 use Rattle.records.specs.Answer.{readSpec}
 use Rattle.records.specs.Encode.{sizeOf, recordOf, InRange}
-use Rattle.records.specs.Answer.{callOf as callSaid}
+use Rattle.records.specs.Answer.{paperEvent}
 use Rattle.records.proofs.Again.{read-again}
 use Rattle.records.proofs.Back.{event-reads-back}
 use Rattle.records.proofs.Written.{length-record}
@@ -37,7 +37,7 @@ use Rattle.lines.proofs.Rest.{no-bytes}
 use Rattle.lines.proofs.Asked.{asked-end, asked-event, asked-no}
 
 -- an event has the values of the call that it asks for
-same-values : (e : Event) → callOf (timeOf e) (changeOf e) ≡ callSaid e
+same-values : (e : Event) → callOf (timeOf e) (changeOf e) ≡ paperEvent e
 same-values (Admit m d) = refl
 same-values (Wake m t) = refl
 same-values (Block m t) = refl
@@ -57,7 +57,8 @@ bytes zero before s few h = rw (asked-end before s (omega arith)) (s, refl, no-b
 bytes (suc k) before s few h =
     go (eqb (length s) 0) refl (readSpec s) refl
     (λ e some-left.
-    bytes k (askingOf e ∷ before) (drop (sizeOf e) s) (omega (arith, some-bytes e, length-drop (sizeOf e) s)) (bytes-behind (sizeOf e) s h))
+    bytes k (askingOf e ∷ before) (drop (sizeOf e) s) (omega (arith, some-bytes e, length-drop (sizeOf e) s))
+    (bytes-behind (sizeOf e) s h))
   where
     go : (z : Bool) → eqb (length s) 0 ≡ z → (r : Read) → readSpec s ≡ r
         → ((e : Event) → 1 ≤ length s →
@@ -104,7 +105,7 @@ module _ (now : Moment) where
   for-asks (AskRemove t) = refl
   for-asks AskTick = refl
 
-  for-says : (c : Change) → callSaid (eventFor now c) ≡ callOf now c
+  for-says : (c : Change) → paperEvent (eventFor now c) ≡ callOf now c
   for-says (AskAdmit d) = refl
   for-says (AskWake t) = refl
   for-says (AskBlock t) = refl
@@ -117,9 +118,9 @@ one-sent : (a : Asking) (before : List Asking) (t : List ℕ) → InRange (callO
 unfolding sizeOf
 one-sent a before t h =
     let e : Event = eventFor (a .now) (a .change) in
-    let same : callSaid e ≡ callOf (a .now) (a .change) = for-says (a .now) (a .change) in
-    let r : List ℕ = recordOf (callSaid e) in
-    let long = length-record (callSaid e) in
+    let same : paperEvent e ≡ callOf (a .now) (a .change) = for-says (a .now) (a .change) in
+    let r : List ℕ = recordOf (paperEvent e) in
+    let long = length-record (paperEvent e) in
     ap (λ (c : Call). askedAfter before (recordOf c ++ t)) (sym same)
     ∙ asked-event before (r ++ t) e (omega (arith, length-append r t)) (event-reads-back e (subst InRange (sym same) h) t)
     ∙ ap (askedAfter (askingOf e ∷ before)) (drop-at r t (sizeOf e) long)

@@ -10,7 +10,7 @@ ghost use mathlib.Core.Path.{_≡_};
 ghost use mathlib.Core.List.{[], _∷_};
 ghost use lib.ListN.{length};
 ghost use Rattle.text.specs.Text.{decimal, over, Put};
-ghost use Rattle.lines.specs.Text.{dash, holderText, timerText, reportText, refusalText, lineOf, lineIn};
+ghost use Rattle.lines.specs.Text.{dash, holderText, timerText, reportText, refusalText, lineOf, lineIn, longest};
 
 // No line has more bytes: two letters, four numbers of at most 20 digits, each behind a space, and a newline.
 pub const LONGEST_LINE: usize = 87;
@@ -20,7 +20,7 @@ fn put_field(out: &mut [u8], at: usize, n: u64) -> usize
     requires { ⌜ at + 21 ≤ length (now out) ⌝ }
     ensures { λ r. ⌜ Put (now (out .entry)) at (32 ∷ decimal n) (now (out .exit)) r × (r ≤ at + 21) ⌝ }
 {
-    out[at] = 32;
+    out[at] = b' ';
     put_number(out, at + 1, n)
 }
 
@@ -29,8 +29,8 @@ fn put_none(out: &mut [u8], at: usize) -> usize
     requires { ⌜ at + 21 ≤ length (now out) ⌝ }
     ensures { λ r. ⌜ Put (now (out .entry)) at (32 ∷ dash) (now (out .exit)) r × (r ≤ at + 21) ⌝ }
 {
-    out[at] = 32;
-    out[at + 1] = 45;
+    out[at] = b' ';
+    out[at + 1] = b'-';
     at + 2
 }
 
@@ -58,16 +58,16 @@ fn put_end(out: &mut [u8], at: usize) -> usize
     requires { ⌜ at + 1 ≤ length (now out) ⌝ }
     ensures { λ r. ⌜ Put (now (out .entry)) at (10 ∷ []) (now (out .exit)) r × (r ≤ at + 1) ⌝ }
 {
-    out[at] = 10;
+    out[at] = b'\n';
     at + 1
 }
 
 fn put_report(out: &mut [u8], at: usize, report: Report) -> usize
-    requires { ⌜ at + 87 ≤ length (now out) ⌝ }
-    ensures { λ r. ⌜ Put (now (out .entry)) at (reportText report) (now (out .exit)) r × (r ≤ at + 87) ⌝ }
+    requires { ⌜ at + longest ≤ length (now out) ⌝ }
+    ensures { λ r. ⌜ Put (now (out .entry)) at (reportText report) (now (out .exit)) r × (r ≤ at + longest) ⌝ }
 {
-    out[at] = 111;
-    out[at + 1] = 107;
+    out[at] = b'o';
+    out[at + 1] = b'k';
     let run = report.run;
     let timer = report.timer;
     let a = put_field(out, at + 2, report.time.ticks());
@@ -78,19 +78,19 @@ fn put_report(out: &mut [u8], at: usize, report: Report) -> usize
 }
 
 fn put_refusal(out: &mut [u8], at: usize, refusal: Refusal) -> usize
-    requires { ⌜ at + 87 ≤ length (now out) ⌝ }
-    ensures { λ r. ⌜ Put (now (out .entry)) at (refusalText refusal) (now (out .exit)) r × (r ≤ at + 87) ⌝ }
+    requires { ⌜ at + longest ≤ length (now out) ⌝ }
+    ensures { λ r. ⌜ Put (now (out .entry)) at (refusalText refusal) (now (out .exit)) r × (r ≤ at + longest) ⌝ }
 {
-    out[at] = 110;
-    out[at + 1] = 111;
+    out[at] = b'n';
+    out[at + 1] = b'o';
     let a = put_field(out, at + 2, refusal.number as u64);
     let b = put_field(out, a, refusal.detail);
     put_end(out, b)
 }
 
 pub(crate) fn put_line(out: &mut [u8], at: usize, reply: Reply) -> usize
-    requires { ⌜ at + 87 ≤ length (now out) ⌝ }
-    ensures { λ r. ⌜ Put (now (out .entry)) at (lineOf reply) (now (out .exit)) r × (r ≤ at + 87) ⌝ }
+    requires { ⌜ at + longest ≤ length (now out) ⌝ }
+    ensures { λ r. ⌜ Put (now (out .entry)) at (lineOf reply) (now (out .exit)) r × (r ≤ at + longest) ⌝ }
 {
     match reply {
         Reply::Done(report) => put_report(out, at, report),

@@ -16,7 +16,7 @@ use Rattle.records.specs.declared.answers.Event.{Event}
 use Rattle.records.specs.declared.answers.Read.the-variants.{Event as Got}
 use Rattle.records.specs.Bytes.{AreBytes, number, bytesOf}
 use Rattle.records.specs.Record.{known, payload, tag, lengthSaid, time, identifier, description, asked, call}
-use Rattle.records.specs.Answer.{callOf, readSpec}
+use Rattle.records.specs.Answer.{paperEvent, readSpec}
 use Rattle.records.specs.Rows.{Layout, admit-has, wake-has, block-has, remove-has, tick-has}
 use Rattle.records.specs.Encode.{tagOf, fieldsOf, head, recordOf, sizeOf, InRange}
 use Rattle.records.proofs.Digits.{take-more}
@@ -103,7 +103,7 @@ module _ (s : List ℕ) (h : AreBytes s) where
 
 -- what was read is in range, and its record is the bytes that were read
 pub read-again : (s : List ℕ) (e : Event) → AreBytes s → readSpec s ≡ Got e
-    → InRange (callOf e) × (recordOf (callOf e) ≡ take (sizeOf e) s)
+    → InRange (paperEvent e) × (recordOf (paperEvent e) ≡ take (sizeOf e) s)
 unfolding call
 read-again s e h r =
     let w : Whole s e = read-whole s e r in

@@ -19,8 +19,8 @@ use Rattle.records.specs.declared.answers.Read.the-variants.{Event as Go
 use Rattle.records.specs.Bytes.{AreBytes, number, bytesOf}
 use Rattle.records.specs.Record.{event, no, known, payloadOf, payload, reading, waits}
 use Rattle.records.specs.Record.{tag, lengthSaid, time, identifier, description, asked, call}
-use Rattle.records.specs.Answer.{callOf, readSaid, readSpec}
-use Rattle.records.specs.Encode.{tagOf, fieldsOf, head, recordOf, sizeOf, isWritten, writtenSize, written}
+use Rattle.records.specs.Answer.{paperEvent, readSaid, readSpec}
+use Rattle.records.specs.Encode.{tagOf, fieldsOf, head, recordOf, sizeOf, isWritten, writtenSize, outAfter}
 use Rattle.records.specs.Encode.{has24Bits, TermsOfTheirTypes, OfItsTypes, InRange}
 use Rattle.records.proofs.Digits.{number-field, bytes-below, bytes-then}
 use Rattle.records.proofs.Paper.{same-call, same-terms, said-again}
@@ -83,8 +83,10 @@ reads-back c h t =
     let a : asked (tag s) s ≡ c .asked = ap (λ (n : ℕ). asked n s) g ∙ asked-back (c .now) t (c .asked) (h .1) (h .0 .1) in
     whole-record s k l p ∙ ap event (same-call (time-back (c .now) t (c .asked) (h .0 .0)) a)
 
-pub event-reads-back : (e : Event) → InRange (callOf e) → (t : List ℕ) → readSpec (recordOf (callOf e) ++ t) ≡ Got e
-event-reads-back e h t = answers (recordOf (callOf e) ++ t) (event (callOf e)) (reads-back (callOf e) h t) ∙ ap Got (said-again e)
+pub event-reads-back : (e : Event) → InRange (paperEvent e) → (t : List ℕ) → readSpec (recordOf (paperEvent e) ++ t) ≡ Got e
+event-reads-back e h t =
+    let c = paperEvent e in
+    answers (recordOf c ++ t) (event c) (reads-back c h t) ∙ ap Got (said-again e)
 
 fields-below : (a : Change) → AreBytes (fieldsOf a)
 fields-below (admit d) =
@@ -107,11 +109,11 @@ record-bytes c =
     (bytes-then 2 (payload n) (bytesOf 8 (c .now) ++ f) (bytes-then 8 (c .now) f (fields-below (c .asked))))
 
 -- what `write` wrote reads back as the event
-pub written-reads-back : (e : Event) (out : List ℕ) → OfItsTypes (callOf e) → isWritten e out ≡ true
-    → (writtenSize e out ≡ sizeOf e) × (readSpec (written e out) ≡ Got e)
-unfolding isWritten writtenSize written
+pub written-reads-back : (e : Event) (out : List ℕ) → OfItsTypes (paperEvent e) → isWritten e out ≡ true
+    → (writtenSize e out ≡ sizeOf e) × (readSpec (outAfter e out) ≡ Got e)
+unfolding isWritten writtenSize outAfter
 written-reads-back e out h g =
-    let n : has24Bits (callOf e .asked) ≡ true = and-true (has24Bits (callOf e .asked)) (leb (sizeOf e) (length out)) g .0 in
+    let n : has24Bits (paperEvent e .asked) ≡ true = and-true (has24Bits (paperEvent e .asked)) (leb (sizeOf e) (length out)) g .0 in
     (rw g, rw g (event-reads-back e (h, n) (drop (sizeOf e) out)))
 
 -- a proper part of a record waits for the rest

@@ -23,9 +23,11 @@ module _ (s : List ℕ) where
   unfolding reading
   other-length h k n = rw (le-ltb (length s) 3 h, k, ne-eqb (lengthSaid s) (payload (tag s)) n)
 
-  pub short-payload : 3 ≤ length s → known (tag s) ≡ true → lengthSaid s ≡ payload (tag s) → length s < 3 + payload (tag s) → reading s ≡ no 20
+  pub short-payload : 3 ≤ length s → known (tag s) ≡ true → lengthSaid s ≡ payload (tag s) → length s < 3 + payload (tag s)
+      → reading s ≡ no 20
   unfolding reading
-  short-payload h k n p = rw (le-ltb (length s) 3 h, k, eq-eqb (lengthSaid s) (payload (tag s)) n, lt-ltb (length s) (3 + payload (tag s)) p)
+  short-payload h k n p =
+      rw (le-ltb (length s) 3 h, k, eq-eqb (lengthSaid s) (payload (tag s)) n, lt-ltb (length s) (3 + payload (tag s)) p)
 
   pub whole-record : known (tag s) ≡ true → lengthSaid s ≡ payload (tag s) → 3 + payload (tag s) ≤ length s → reading s ≡ event (call s)
   unfolding reading

@@ -1,5 +1,5 @@
--- Laws of big-endian numbers, over the width: bytes behind and before do not matter, the bytes of a number give it back, and one byte more.
--- Assumes nothing.
+-- Laws of big-endian numbers, over the width: bytes behind and before do not matter, the bytes of a number give it back, and one byte
+-- more. Assumes nothing.
 use Prim.Native.Nat.{ℕ, zero, suc, _+_, _/_, _%_, _^_, _≤_, _<_}
 use native.Mathlib.Nat.{zero-add, pow-suc}
 use native.Mathlib.Omega.{arith}

@@ -11,7 +11,7 @@ use Rattle.rules.specs.Turn.{Call}
 use Rattle.records.specs.declared.answers.Event.{Event}
 use Rattle.records.specs.declared.answers.Read.the-variants.{Event as Got}
 use Rattle.records.specs.Record.{event, no, known, payload, tag, lengthSaid, asked, call, waits}
-use Rattle.records.specs.Answer.{callOf, eventSaid, readSaid, readSpec}
+use Rattle.records.specs.Answer.{paperEvent, eventSaid, readSaid, readSpec}
 use Rattle.records.specs.Encode.{tagOf, sizeOf}
 use Rattle.records.specs.Rows.{Layout, admit-has, wake-has, block-has, remove-has, tick-has}
 use Rattle.records.proofs.Paper.{values-again}
@@ -46,7 +46,7 @@ pub record Whole (s : List ℕ) (e : Event) : Type 0 where
   pub known-tag : known (tag s) ≡ true
   pub said : lengthSaid s ≡ payload (tag s)
   pub fits : 3 + payload (tag s) ≤ length s
-  pub same : callOf e ≡ call s
+  pub same : paperEvent e ≡ call s
 
 whole-case : (s : List ℕ) (e : Event) → Case s → readSpec s ≡ Got e → Whole s e
 unfolding told
@@ -56,7 +56,7 @@ whole-case s e (other h k n) r = absurd (omega (arith, ap told (sym r ∙ answer
 whole-case s e (short h k l p) r = absurd (omega (arith, ap told (sym r ∙ answers s (no 20) (short-payload s h k l p))))
 whole-case s e (whole h k l p) r =
     let same : e ≡ eventSaid (call s .now) (call s .asked) = got-same (sym r ∙ answers s (event (call s)) (whole-record s k l p)) in
-    record { known-tag = k; said = l; fits = p; same = ap callOf same ∙ values-again (call s .now) (call s .asked) }
+    record { known-tag = k; said = l; fits = p; same = ap paperEvent same ∙ values-again (call s .now) (call s .asked) }
 
 pub read-whole : (s : List ℕ) (e : Event) → readSpec s ≡ Got e → Whole s e
 read-whole s e r = whole-case s e (case s) r
@@ -66,6 +66,6 @@ pub read-size : (s : List ℕ) (e : Event) → readSpec s ≡ Got e → (sizeOf 
 unfolding call sizeOf
 read-size s e r =
     let w : Whole s e = read-whole s e r in
-    let t : tagOf (callOf e .asked) ≡ tag s =
+    let t : tagOf (paperEvent e .asked) ≡ tag s =
     ap (λ (c : Call). tagOf (c .asked)) (w .same) ∙ asked-tag (tag s) (payload (tag s)) s (known-layout (tag s) (w .known-tag)) in
     (ap (λ (n : ℕ). 3 + payload n) t, omega (arith, ap payload t, w .fits))

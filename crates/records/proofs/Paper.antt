@@ -11,7 +11,7 @@ use Rattle.records.specs.declared.answers.Event.the-variants.{Admit, Wak
 use Rattle.records.specs.declared.answers.Read.{Read}
 use Rattle.records.specs.declared.answers.Read.the-variants.{Event as Got, No}
 use Rattle.records.specs.Record.{Reading, event, refused, reading}
-use Rattle.records.specs.Answer.{callOf, paperRead, eventSaid, readSaid, readSpec}
+use Rattle.records.specs.Answer.{paperEvent, paperRead, eventSaid, readSaid, readSpec}
 
 -- a call is its time and what it asks, and a description its four numbers
 pub same-call : {n m : ℕ} {a b : Change} → n ≡ m → a ≡ b → _≡_ {A = Call} (record { now = n; asked = a }) (record { now = m; asked = b })
@@ -22,7 +22,7 @@ pub same-terms : (d : Description) {i p c u : ℕ} → i ≡ d .tunnel → p ≡
 same-terms d e f g h = rw (e, f, g, h)
 
 -- an event is what its own values say
-pub said-again : (e : Event) → eventSaid (callOf e .now) (callOf e .asked) ≡ e
+pub said-again : (e : Event) → eventSaid (paperEvent e .now) (paperEvent e .asked) ≡ e
 said-again (Admit m d) = refl
 said-again (Wake m t) = refl
 said-again (Block m t) = refl
@@ -30,7 +30,7 @@ said-again (Remove m t) = refl
 said-again (Tick m) = refl
 
 -- and its values are those that it says
-pub values-again : (n : ℕ) (a : Change) → callOf (eventSaid n a) ≡ record { now = n; asked = a }
+pub values-again : (n : ℕ) (a : Change) → paperEvent (eventSaid n a) ≡ record { now = n; asked = a }
 values-again n (admit d) = refl
 values-again n (wake t) = refl
 values-again n (block t) = refl

@@ -84,7 +84,8 @@ module _ (s : List ℕ) where
   named : (k : ℕ) → tag s ≡ k → lengthSaid s ≡ 11 → 14 ≤ length s → Begins s ((k, 1) ∷ (11, 2) ∷ (time s, 8) ∷ (identifier s, 3) ∷ [])
   named k t l p = headed k 11 t l ((identifier s, 3) ∷ []) (omega arith) (omega arith, refl, tt)
 
-  says-call : (k n : ℕ) → Layout k n → tag s ≡ k → lengthSaid s ≡ n → 3 + n ≤ length s → Says s (record { now = time s; asked = asked k s })
+  says-call : (k n : ℕ) → Layout k n → tag s ≡ k → lengthSaid s ≡ n → 3 + n ≤ length s
+      → Says s (record { now = time s; asked = asked k s })
   says-call k n admit-has t l p =
       says-admit (description s) refl
       (headed 1 20 t l ((identifier s, 3) ∷ (number s 14 4, 4) ∷ (number s 18 4, 4) ∷ (getD s 22 0, 1) ∷ []) (omega arith)
@@ -113,7 +114,8 @@ module _ (s : List ℕ) where
   payload-check o h l q e =
       step o 4 20 (ltb (length s) (3 + has)) _ e (λ f. payload-short (tag s) (lengthSaid s) (header h) (omega (arith, tests)))
       (λ f n k. omega (arith, tests, of-4 n k))
-      (λ f e b. subst Means e ((λ p n k. b p n (omega (arith, between p n k .1)) k), says-call (tag s) has l refl q (omega (arith, tests))))
+      (λ f e b.
+      subst Means e ((λ p n k. b p n (omega (arith, between p n k .1)) k), says-call (tag s) has l refl q (omega (arith, tests))))
 
   length-check : (o : Reading) → 3 ≤ length s → Layout (tag s) has → from-3 ≡ o → Before 3 → Means o
   length-check o h l e =

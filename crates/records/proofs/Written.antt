@@ -13,8 +13,8 @@ use Rattle.rules.specs.Change.{Change, admit, wake, block, remove, tick}
 use Rattle.rules.specs.Turn.{Call}
 use Rattle.records.specs.declared.answers.Event.{Event}
 use Rattle.records.specs.Record.{known, payloadOf, payload, tag, lengthSaid}
-use Rattle.records.specs.Answer.{callOf}
-use Rattle.records.specs.Encode.{tagOf, fieldsOf, head, recordOf, sizeOf, has24Bits, isWritten, writtenSize, written, laid}
+use Rattle.records.specs.Answer.{paperEvent}
+use Rattle.records.specs.Encode.{tagOf, fieldsOf, head, recordOf, sizeOf, has24Bits, isWritten, writtenSize, outAfter, laid}
 
 -- "admit, 20 bytes; wake, block, remove, 11 bytes each; tick, 8 bytes"
 record-says : (c : Call)
@@ -52,32 +52,33 @@ pub record-known : (c : Call) → known (tagOf (c .asked)) ≡ true
 record-known c = record-says c .3
 
 module _ (e : Event) (out : List ℕ) where
-  pub kept : isWritten e out ≡ false → (0 ≡ writtenSize e out) × (out ≡ written e out)
-  unfolding writtenSize written
+  pub kept : isWritten e out ≡ false → (0 ≡ writtenSize e out) × (out ≡ outAfter e out)
+  unfolding writtenSize outAfter
   kept h = (rw h, rw h)
 
-  pub too-wide : has24Bits (callOf e .asked) ≡ false → isWritten e out ≡ false
+  pub too-wide : has24Bits (paperEvent e .asked) ≡ false → isWritten e out ≡ false
   unfolding isWritten
   too-wide h = rw h
 
   pub no-room : length out < sizeOf e → isWritten e out ≡ false
   unfolding isWritten
-  no-room h = rw (lt-leb (sizeOf e) (length out) h) (go (has24Bits (callOf e .asked)))
+  no-room h = rw (lt-leb (sizeOf e) (length out) h) (go (has24Bits (paperEvent e .asked)))
     where
       go : (b : Bool) → b && false ≡ false
       go true = refl
       go false = refl
 
-  is-written : has24Bits (callOf e .asked) ≡ true → sizeOf e ≤ length out → isWritten e out ≡ true
+  is-written : has24Bits (paperEvent e .asked) ≡ true → sizeOf e ≤ length out → isWritten e out ≡ true
   unfolding isWritten
   is-written n h = rw (n, le-leb (sizeOf e) (length out) h)
 
-  pub put-whole : (e′ : Event) (r : ℕ) (out′ : List ℕ) → e ≡ e′ → r ≡ sizeOf e → has24Bits (callOf e .asked) ≡ true → sizeOf e ≤ length out
-      → out′ ≡ laid out 0 (recordOf (callOf e′)) → (r ≡ writtenSize e out) × (out′ ≡ written e out)
-  unfolding writtenSize written laid sizeOf
+  pub put-whole : (e′ : Event) (r : ℕ) (out′ : List ℕ) → e ≡ e′ → r ≡ sizeOf e
+      → has24Bits (paperEvent e .asked) ≡ true → sizeOf e ≤ length out
+      → out′ ≡ laid out 0 (recordOf (paperEvent e′)) → (r ≡ writtenSize e out) × (out′ ≡ outAfter e out)
+  unfolding writtenSize outAfter laid sizeOf
   put-whole e′ r out′ same size w room p =
       let h : isWritten e out ≡ true = is-written w room in
-      let x : List ℕ = recordOf (callOf e) in
-      let n : 0 + length x ≡ sizeOf e = zero-add _ ∙ length-record (callOf e) in
-      let q : out′ ≡ laid out 0 x = subst (λ (y : Event). out′ ≡ laid out 0 (recordOf (callOf y))) (sym same) p in
+      let x : List ℕ = recordOf (paperEvent e) in
+      let n : 0 + length x ≡ sizeOf e = zero-add _ ∙ length-record (paperEvent e) in
+      let q : out′ ≡ laid out 0 x = subst (λ (y : Event). out′ ≡ laid out 0 (recordOf (paperEvent y))) (sym same) p in
       (rw h size, rw h (q ∙ sets-eq x out 0 (omega arith) ∙ ap (λ (k : ℕ). x ++ drop k out) n))

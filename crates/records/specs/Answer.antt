@@ -15,17 +15,17 @@ use Rattle.records.specs.declared.answers.Payload.{Payload}
 use Rattle.records.specs.declared.answers.Payload.the-variants.{Bytes, Unknown}
 use Rattle.records.specs.Record.{Reading, event, refused, reading}
 
--- the call of an event
-abbrev pub callOf : Event → Call
-callOf (Admit m d) = record { now = m .0; asked = admit (described d) }
-callOf (Wake m t) = record { now = m .0; asked = wake (t .0) }
-callOf (Block m t) = record { now = m .0; asked = block (t .0) }
-callOf (Remove m t) = record { now = m .0; asked = remove (t .0) }
-callOf (Tick m) = record { now = m .0; asked = tick }
+-- the call that an event asks for
+abbrev pub paperEvent : Event → Call
+paperEvent (Admit m d) = record { now = m .0; asked = admit (described d) }
+paperEvent (Wake m t) = record { now = m .0; asked = wake (t .0) }
+paperEvent (Block m t) = record { now = m .0; asked = block (t .0) }
+paperEvent (Remove m t) = record { now = m .0; asked = remove (t .0) }
+paperEvent (Tick m) = record { now = m .0; asked = tick }
 
 -- the event of an answer, or its number and detail
 abbrev pub paperRead : Read → Reading
-paperRead (Got e) = event (callOf e)
+paperRead (Got e) = event (paperEvent e)
 paperRead (No r) = refused (record { number = r .number; detail = r .detail })
 
 -- between private functions: the bytes of a tag's payload

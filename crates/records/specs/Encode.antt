@@ -13,7 +13,7 @@ use Rattle.rules.specs.Turn.{Call}
 use Rattle.records.specs.declared.answers.Event.{Event}
 use Rattle.records.specs.Bytes.{bytesOf}
 use Rattle.records.specs.Record.{payload}
-use Rattle.records.specs.Answer.{callOf}
+use Rattle.records.specs.Answer.{paperEvent}
 
 -- "1 admit, 2 wake, 3 block, 4 remove, 5 tick"
 abbrev pub tagOf : Change → ℕ
@@ -41,7 +41,7 @@ recordOf c = head (tagOf (c .asked)) (payload (tagOf (c .asked))) (c .now) ++ fi
 
 -- the bytes of an event's whole record
 unfoldable pub sizeOf : Event → ℕ
-sizeOf e = 3 + payload (tagOf (callOf e .asked))
+sizeOf e = 3 + payload (tagOf (paperEvent e .asked))
 
 -- "identifier 3": a wider one would not read back
 abbrev pub has24Bits : Change → Bool
@@ -69,15 +69,15 @@ InRange c = OfItsTypes c × (has24Bits (c .asked) ≡ true)
 
 -- the record would read back, and there is room for it
 unfoldable pub isWritten : Event → List ℕ → Bool
-isWritten e out = has24Bits (callOf e .asked) && leb (sizeOf e) (length out)
+isWritten e out = has24Bits (paperEvent e .asked) && leb (sizeOf e) (length out)
 
 -- how many bytes are written: the whole record or nothing
 unfoldable pub writtenSize : Event → List ℕ → ℕ
 writtenSize e out = cond (isWritten e out) (sizeOf e) 0
 
 -- what `out` holds then: the record at its front, and the rest as it was
-unfoldable pub written : Event → List ℕ → List ℕ
-written e out = cond (isWritten e out) (recordOf (callOf e) ++ drop (sizeOf e) out) out
+unfoldable pub outAfter : Event → List ℕ → List ℕ
+outAfter e out = cond (isWritten e out) (recordOf (paperEvent e) ++ drop (sizeOf e) out) out
 
 -- `s` with `xs` laid over it from `at` on; only the promises of private functions cite it
 unfoldable pub laid : List ℕ → ℕ → List ℕ → List ℕ

@@ -1,5 +1,5 @@
 -- Document 01, "Event records and lines" with rows 20 to 22 of "Reply numbers", as plain facts of the bytes: where each check applies,
--- that the first that does is given, and which call is read where none does. Proved of every list of bytes in proofs/Rows. Assumes nothing.
+-- that the first that does is given, and which call is read where none does. Proved of all bytes in proofs/Rows. Assumes nothing.
 use Prim.Native.Nat.{ℕ, _+_, _*_, _^_, _<_}
 use mathlib.Core.Path.{_≡_}
 use mathlib.Core.List.{List, [], _∷_, _++_}

@@ -19,6 +19,6 @@ pub enum Read {
 
 // The payload bytes that a tag asks for.
 pub(crate) enum Payload {
-    Bytes(u32),
+    Bytes(usize),
     Unknown,
 }

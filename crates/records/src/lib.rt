@@ -2,6 +2,7 @@
 mod answers;
 mod numbers;
 mod reader;
+mod sizes;
 mod writer;
 
 pub use answers::Event;

@@ -2,7 +2,7 @@
 ghost use mathlib.Core.Path.{_≡_};
 ghost use Prim.Native.Nat.{_+_, _*_, _<_};
 
-fn wide(b: u8) -> u32
+fn byte(b: u8) -> u32
     ensures { λ r. ⌜ (r ≡ b) × (r < 256) ⌝ }
 {
     b as u32
@@ -11,13 +11,13 @@ fn wide(b: u8) -> u32
 pub(crate) fn two(a: u8, b: u8) -> u32
     ensures { λ r. ⌜ (r ≡ a * 256 + b) × (r < 65536) ⌝ }
 {
-    wide(a) * 256 + wide(b)
+    byte(a) * 256 + byte(b)
 }
 
 pub(crate) fn three(a: u8, b: u8, c: u8) -> u32
     ensures { λ r. ⌜ r ≡ (a * 256 + b) * 256 + c ⌝ }
 {
-    wide(a) * 65536 + two(b, c)
+    byte(a) * 65536 + two(b, c)
 }
 
 pub(crate) fn four(a: u8, b: u8, c: u8, d: u8) -> u32

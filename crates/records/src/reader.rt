@@ -3,6 +3,8 @@ use crate::answers::Event;
 use crate::answers::Payload;
 use crate::answers::Read;
 use crate::numbers;
+use crate::sizes;
+use crate::sizes::HEADER;
 use turns::Description;
 use turns::Refusal;
 use units::Amount;
@@ -14,14 +16,9 @@ ghost use Prim.Native.Nat.{_+_, _≤_};
 ghost use lib.ListN.{length};
 ghost use Rattle.turns.specs.Calls.{described};
 ghost use Rattle.records.specs.Bytes.{number};
-ghost use Rattle.records.specs.Record.{payloadOf, known, payload as payloadBytes, tag as tagOf, description as saidDescription, call, no as refusedWith, reading};
-ghost use Rattle.records.specs.Answer.{callOf, paperRead, paperPayload};
-
-const HEADER: usize = 3;
-// Admit and tick; 6 and 7 are kept for device work.
-const FIRST_TAG: u8 = 1;
-
-const LAST_TAG: u8 = 5;
+ghost use Rattle.records.specs.Record.{payloadOf, known, payload as payloadBytes, tag as tagOf, call, reading};
+ghost use Rattle.records.specs.Record.{description as saidDescription, no as refusedWith};
+ghost use Rattle.records.specs.Answer.{paperEvent, paperRead, paperPayload};
 
 fn no(number: u8) -> Read
     ensures { λ r. ⌜ paperRead r ≡ refusedWith number ⌝ }
@@ -29,19 +26,15 @@ fn no(number: u8) -> Read
     Read::No(Refusal { number, detail: 0 })
 }
 
+// 6 and 7 are kept for device work.
 fn payload(tag: u8) -> Payload
     ensures { λ r. ⌜ paperPayload r ≡ payloadOf tag ⌝ }
 {
-    if tag < FIRST_TAG {
-        return Payload::Unknown;
-    }
-    if LAST_TAG < tag {
-        return Payload::Unknown;
-    }
     match tag {
-        1 => Payload::Bytes(20),
-        5 => Payload::Bytes(8),
-        _ => Payload::Bytes(11),
+        1 => Payload::Bytes(sizes::ADMIT),
+        2 | 3 | 4 => Payload::Bytes(sizes::NAMING),
+        5 => Payload::Bytes(sizes::TICK),
+        _ => Payload::Unknown,
     }
 }
 
@@ -90,7 +83,7 @@ fn description(bytes: &[u8]) -> Description
 // The event of a whole record.
 fn event(tag: u8, bytes: &[u8]) -> Event
     requires { ⌜ (tag ≡ tagOf (now bytes)) × (known tag ≡ true) × (3 + payloadBytes tag ≤ length (now bytes)) ⌝ }
-    ensures { λ r. ⌜ callOf r ≡ call (now (bytes .entry)) ⌝ }
+    ensures { λ r. ⌜ paperEvent r ≡ call (now (bytes .entry)) ⌝ }
 {
     let at = Moment::new(time(bytes));
     match tag {
@@ -114,13 +107,12 @@ pub fn read(bytes: &[u8]) -> Read
     let Payload::Bytes(due) = asks else {
         return no(21);
     };
-    let said = numbers::two(bytes[1], bytes[2]);
+    let said = numbers::two(bytes[1], bytes[2]) as usize;
     if said != due {
         return no(22);
     }
     let rest = bytes.len() - HEADER;
-    let wanted = due as usize;
-    if rest < wanted {
+    if rest < due {
         return no(20);
     }
     Read::Event(event(tag, bytes))

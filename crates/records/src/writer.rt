@@ -1,5 +1,7 @@
 // An event to its bytes.
 use crate::answers::Event;
+use crate::sizes;
+use crate::sizes::HEADER;
 use turns::Description;
 use turns::LARGEST_TUNNEL;
 use units::Moment;
@@ -13,19 +15,19 @@ ghost use Rattle.rules.specs.Limits.{largestTunnel};
 ghost use Rattle.rules.specs.Change.{admit};
 ghost use Rattle.turns.specs.Calls.{described};
 ghost use Rattle.records.specs.Bytes.{bytesOf};
-ghost use Rattle.records.specs.Answer.{callOf};
-ghost use Rattle.records.specs.Encode.{head, fieldsOf, sizeOf, has24Bits, writtenSize, written, laid};
+ghost use Rattle.records.specs.Answer.{paperEvent};
+ghost use Rattle.records.specs.Encode.{head, fieldsOf, sizeOf, has24Bits, writtenSize, outAfter, laid};
 
 // The bytes of the event's whole record.
 pub fn size(event: Event) -> usize
     ensures { λ r. ⌜ r ≡ sizeOf event ⌝ }
 {
     match event {
-        Event::Admit(_, _) => 23,
-        Event::Wake(_, _) => 14,
-        Event::Block(_, _) => 14,
-        Event::Remove(_, _) => 14,
-        Event::Tick(_) => 11,
+        Event::Admit(_, _) => sizes::ADMIT_RECORD,
+        Event::Wake(_, _) => sizes::NAMING_RECORD,
+        Event::Block(_, _) => sizes::NAMING_RECORD,
+        Event::Remove(_, _) => sizes::NAMING_RECORD,
+        Event::Tick(_) => sizes::TICK_RECORD,
     }
 }
 
@@ -37,7 +39,7 @@ fn has_24_bits(id: Tunnel) -> bool
 
 // Whether the event's numbers fit its record: an identifier can be too wide, nothing else.
 fn fits(event: Event) -> bool
-    ensures { λ r. ⌜ r ≡ has24Bits (callOf event .asked) ⌝ }
+    ensures { λ r. ⌜ r ≡ has24Bits (paperEvent event .asked) ⌝ }
 {
     match event {
         Event::Admit(_, d) => {
@@ -65,20 +67,20 @@ fn put(out: &mut [u8], at: usize, width: usize, number: u64)
     }
 }
 
-fn put_head(out: &mut [u8], tag: u64, payload: u64, time: Moment)
+fn put_head(out: &mut [u8], tag: u64, payload: usize, time: Moment)
     requires { ⌜ 11 ≤ length (now out) ⌝ }
     ensures { λ r. ⌜ now (out .exit) ≡ laid (now (out .entry)) 0 (head tag payload (time .0)) ⌝ }
 {
     put(out, 0, 1, tag);
-    put(out, 1, 2, payload);
-    put(out, 3, 8, time.ticks());
+    put(out, 1, 2, payload as u64);
+    put(out, HEADER, 8, time.ticks());
 }
 
 fn put_naming(out: &mut [u8], tag: u64, time: Moment, id: Tunnel)
     requires { ⌜ 14 ≤ length (now out) ⌝ }
     ensures { λ r. ⌜ now (out .exit) ≡ laid (now (out .entry)) 0 (head tag 11 (time .0) ++ bytesOf 3 (id .0)) ⌝ }
 {
-    put_head(out, tag, 11, time);
+    put_head(out, tag, sizes::NAMING, time);
     put(out, 11, 3, id.number() as u64);
 }
 
@@ -89,7 +91,7 @@ fn put_admit(out: &mut [u8], time: Moment, d: Description)
     let id = d.tunnel;
     let period = d.period;
     let capacity = d.capacity;
-    put_head(out, 1, 20, time);
+    put_head(out, 1, sizes::ADMIT, time);
     put(out, 11, 3, id.number() as u64);
     put(out, 14, 4, period.ticks() as u64);
     put(out, 18, 4, capacity.ticks() as u64);
@@ -99,14 +101,11 @@ fn put_admit(out: &mut [u8], time: Moment, d: Description)
 // The event's record at the front of `out`, and how many bytes it has; where there is no room, or where the identifier would not
 // read back, nothing is written.
 pub fn write(event: Event, out: &mut [u8]) -> usize
-    ensures { λ r. ⌜ (r ≡ writtenSize event (now (out .entry))) × (now (out .exit) ≡ written event (now (out .entry))) ⌝ }
+    ensures { λ r. ⌜ (r ≡ writtenSize event (now (out .entry))) × (now (out .exit) ≡ outAfter event (now (out .entry))) ⌝ }
 {
     let whole = size(event);
     let id_fits = fits(event);
-    if !id_fits {
-        return 0;
-    }
-    if out.len() < whole {
+    if !id_fits || out.len() < whole {
         return 0;
     }
     match event {
@@ -114,7 +113,7 @@ pub fn write(event: Event, out: &mut [u8]) -> usize
         Event::Wake(time, id) => put_naming(out, 2, time, id),
         Event::Block(time, id) => put_naming(out, 3, time, id),
         Event::Remove(time, id) => put_naming(out, 4, time, id),
-        Event::Tick(time) => put_head(out, 5, 8, time),
+        Event::Tick(time) => put_head(out, 5, sizes::TICK, time),
     }
     whole
 }

@@ -79,7 +79,8 @@ some-room c = c .before .before .if1 .left
 read-all : (c : R) → c .read .result ≡ readSpec (left (again c))
 read-all c =
     let l = again c in
-    read-is _ _ (c .read .ensures) ∙ ap readSpec (take-all (length (input l) - used l) (left l) (omega (arith, length-drop (used l) (input l))))
+    let some = length-drop (used l) (input l) in
+    read-is _ _ (c .read .ensures) ∙ ap readSpec (take-all (length (input l) - used l) (left l) (omega (arith, some)))
 
 -- the place where it was refused
 abbrev N : Type 0

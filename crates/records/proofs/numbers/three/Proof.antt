@@ -4,8 +4,8 @@ use borrow.Author.Needs.{needs}
 use Rattle.records.proofs.numbers.three.Statement.{statement}
 use Rattle.records.proofs.numbers.three.Tie as tie
 
-wide-requires : tie.Need-wide-requires
-wide-requires c κs = search needs
+byte-requires : tie.Need-byte-requires
+byte-requires c κs = search needs
 
 mul-result : tie.Need-mul-result
 mul-result c = search needs
@@ -20,4 +20,4 @@ returns : tie.Need-returns
 returns c = omega arith
 
 pub three-spec : {M : Type 1} → statement M
-three-spec = tie.close (tie.spec wide-requires mul-result two-requires add-result returns)
+three-spec = tie.close (tie.spec byte-requires mul-result two-requires add-result returns)

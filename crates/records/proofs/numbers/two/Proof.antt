@@ -4,14 +4,14 @@ use borrow.Author.Needs.{needs}
 use Rattle.records.proofs.numbers.two.Statement.{statement}
 use Rattle.records.proofs.numbers.two.Tie as tie
 
-wide-requires : tie.Need-wide-requires
-wide-requires c κs = search needs
+byte-requires : tie.Need-byte-requires
+byte-requires c κs = search needs
 
 mul-result : tie.Need-mul-result
 mul-result c = search needs
 
-wide-requires-2 : tie.Need-wide-requires-2
-wide-requires-2 c κs = search needs
+byte-requires-2 : tie.Need-byte-requires-2
+byte-requires-2 c κs = search needs
 
 add-result : tie.Need-add-result
 add-result c = search needs
@@ -20,4 +20,4 @@ returns : tie.Need-returns
 returns c = omega arith
 
 pub two-spec : {M : Type 1} → statement M
-two-spec = tie.close (tie.spec wide-requires mul-result wide-requires-2 add-result returns)
+two-spec = tie.close (tie.spec byte-requires mul-result byte-requires-2 add-result returns)

@@ -58,6 +58,9 @@ shared-slice-read-two-2 c = search needs
 two-requires : tie.Need-two-requires
 two-requires c κs = search needs
 
+cast-said : tie.Need-cast-said
+cast-said c = search needs
+
 no-requires-3 : tie.Need-no-requires-3
 no-requires-3 c κs = search needs
 
@@ -68,9 +71,6 @@ returns-3 c =
 
 sub-rest : tie.Need-sub-rest
 sub-rest c = search needs
-
-cast-wanted : tie.Need-cast-wanted
-cast-wanted c = search needs
 
 no-requires-4 : tie.Need-no-requires-4
 no-requires-4 c κs = search needs
@@ -103,10 +103,10 @@ read-spec =
     shared-slice-read-two
     shared-slice-read-two-2
     two-requires
+    cast-said
     no-requires-3
     returns-3
     sub-rest
-    cast-wanted
     no-requires-4
     returns-4
     event-requires

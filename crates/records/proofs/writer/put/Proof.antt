@@ -38,14 +38,19 @@ loop-less c = search needs
 
 loop-again : tie.Need-loop-again Inv-loop μ-loop
 loop-again c =
-    (omega arith, simp length-set (c .before .loop .inv .1), laid-last (c .before .loop .out) (c .before .before .args .at) (c .before .loop .left) (c .before .loop .rest) (c .loop-test .taken) ∙ c .before .loop .inv .2)
+    let l = c .before .loop in (
+      omega arith,
+      simp length-set (l .inv .1),
+      laid-last (l .out) (c .before .before .args .at) (l .left) (l .rest) (c .loop-test .taken) ∙ l .inv .2,
+    )
 
 same-length : tie.Need-same-length Inv-loop μ-loop
 same-length c = search needs
 
 returns : tie.Need-returns Inv-loop μ-loop
 returns c =
-    laid-done (c .before .loop .out) (c .before .before .args .at) (c .before .loop .left) (c .before .loop .rest) (omega arith) ∙ c .before .loop .inv .2
+    let l = c .before .loop in
+    laid-done (l .out) (c .before .before .args .at) (l .left) (l .rest) (omega arith) ∙ l .inv .2
 
 pub put-spec : {M : Type 1} → statement M
 put-spec =

@@ -5,12 +5,14 @@ use native.Mathlib.Omega.{arith}
 use Prim.Native.Nat.{ℕ, _≤_}
 use mathlib.Core.Path.{_≡_, sym, _∙_}
 use mathlib.Core.List.{List}
+use mathlib.Core.Logic.{⊎-elim}
 use lib.ListN.{length}
 use borrow.Author.Tests.{not-true, not-false}
+use Rattle.rules.proofs.Tests.{tests}
 use Rattle.records.specs.declared.answers.Event.{Event}
 use Rattle.records.specs.Record.{payloadOf, payload}
-use Rattle.records.specs.Answer.{callOf}
-use Rattle.records.specs.Encode.{head, recordOf, sizeOf, writtenSize, written, laid}
+use Rattle.records.specs.Answer.{paperEvent}
+use Rattle.records.specs.Encode.{head, recordOf, sizeOf, writtenSize, outAfter, laid}
 use Rattle.records.proofs.Written.{kept, too-wide, no-room, put-whole}
 use Rattle.records.proofs.writer.write.Statement.{statement}
 use Rattle.records.proofs.writer.write.Tie as tie
@@ -22,10 +24,12 @@ fits-requires : tie.Need-fits-requires
 fits-requires c κs = search needs
 
 returns : tie.Need-returns
-returns c = kept _ _ (too-wide _ _ (sym (c .before .fits2 .ensures) ∙ not-true _ (c .if1 .taken)))
-
-returns-2 : tie.Need-returns-2
-returns-2 c = kept _ _ (no-room _ _ (omega (arith, c .before .before .before .size .ensures)))
+returns c =
+    kept _ _
+    (⊎-elim
+    (λ t. too-wide _ _ (sym (c .before .fits2 .ensures) ∙ not-true _ (t .taken)))
+    (λ t. no-room _ _ (omega (arith, tests, t .1 .taken, c .before .before .size .ensures)))
+    (c .if1 .came))
 
 -- where both tests are passed
 abbrev its-event : tie.Else2 → Event
@@ -35,10 +39,10 @@ abbrev its-out : tie.Else2 → List ℕ
 its-out c = c .before .before .before .before .before .args .out .now
 
 has-room : (c : tie.Else2) → sizeOf (its-event c) ≤ length (its-out c)
-has-room c = omega (arith, c .before .before .before .size .ensures, c .if2 .left)
+has-room c = omega (arith, tests, c .before .before .before .size .ensures, c .if2 .left)
 
-whole : (c : tie.Else2) (e : Event) (out : List ℕ) → its-event c ≡ e → out ≡ laid (its-out c) 0 (recordOf (callOf e))
-    → (c .before .before .before .size .result ≡ writtenSize (its-event c) (its-out c)) × (out ≡ written (its-event c) (its-out c))
+whole : (c : tie.Else2) (e : Event) (out : List ℕ) → its-event c ≡ e → out ≡ laid (its-out c) 0 (recordOf (paperEvent e))
+    → (c .before .before .before .size .result ≡ writtenSize (its-event c) (its-out c)) × (out ≡ outAfter (its-event c) (its-out c))
 whole c e out same p =
     put-whole _ _ e _ out same (c .before .before .before .size .ensures)
     (sym (c .before .before .fits2 .ensures) ∙ not-false _ (c .before .if1 .left)) (has-room c)
@@ -97,9 +101,9 @@ put-head-requires c κs =
 same-length : tie.Need-same-length
 same-length c = search needs
 
-returns-3 : tie.Need-returns-3
+returns-2 : tie.Need-returns-2
 unfolding recordOf payload payloadOf
-returns-3 c =
+returns-2 c =
     let put = c .before .before in
     let case = put .before .before .before in
     whole (case .before .before) _ _ (case .event .given .1) (put .put-admit .ensures)
@@ -107,9 +111,9 @@ returns-3 c =
 same-length-2 : tie.Need-same-length-2
 same-length-2 c = search needs
 
-returns-4 : tie.Need-returns-4
+returns-3 : tie.Need-returns-3
 unfolding recordOf payload payloadOf
-returns-4 c =
+returns-3 c =
     let put = c .before .before in
     let case = put .before .before .before in
     whole (case .before .before) _ _ (case .event2 .given .1) (put .put-naming .ensures)
@@ -117,9 +121,9 @@ returns-4 c =
 same-length-3 : tie.Need-same-length-3
 same-length-3 c = search needs
 
-returns-5 : tie.Need-returns-5
+returns-4 : tie.Need-returns-4
 unfolding recordOf payload payloadOf
-returns-5 c =
+returns-4 c =
     let put = c .before .before in
     let case = put .before .before .before in
     whole (case .before .before) _ _ (case .event3 .given .1) (put .put-naming2 .ensures)
@@ -127,9 +131,9 @@ returns-5 c =
 same-length-4 : tie.Need-same-length-4
 same-length-4 c = search needs
 
-returns-6 : tie.Need-returns-6
+returns-5 : tie.Need-returns-5
 unfolding recordOf payload payloadOf
-returns-6 c =
+returns-5 c =
     let put = c .before .before in
     let case = put .before .before .before in
     whole (case .before .before) _ _ (case .event4 .given .1) (put .put-naming3 .ensures)
@@ -137,9 +141,9 @@ returns-6 c =
 same-length-5 : tie.Need-same-length-5
 same-length-5 c = search needs
 
-returns-7 : tie.Need-returns-7
+returns-6 : tie.Need-returns-6
 unfolding recordOf payload payloadOf head
-returns-7 c =
+returns-6 c =
     let put = c .before .before in
     let case = put .before .before .before in
     whole (case .before .before) _ _ (case .event5 .given .1) (put .put-head .ensures)
@@ -151,7 +155,6 @@ write-spec =
     size-requires
     fits-requires
     returns
-    returns-2
     enum-known-event
     put-admit-requires
     enum-known-event-2
@@ -163,12 +166,12 @@ write-spec =
     enum-known-event-5
     put-head-requires
     same-length
-    returns-3
+    returns-2
     same-length-2
-    returns-4
+    returns-3
     same-length-3
-    returns-5
+    returns-4
     same-length-4
-    returns-6
+    returns-5
     same-length-5
-    returns-7)
+    returns-6)
