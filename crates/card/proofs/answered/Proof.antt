@@ -1,11 +1,12 @@
 -- `answered` ends: each go uses some bytes. The invariant: the core is valid, what was used lies within the input, and the
 -- rest gives what the whole gives. Assumes nothing.
 use Prim.Native.Nat.{_+_, _-_, _≤_}
-use mathlib.Core.Path.{_≡_, refl, _∙_}
+use mathlib.Core.Path.{_≡_, refl, sym, _∙_}
 use mathlib.Core.Bool.{true, false}
 use mathlib.Core.Logic.{_⊎_, inl, inr, ⊎-elim}
 use native.Mathlib.Omega.{arith}
 use lib.ListN.{length, drop, take, length-take, length-drop}
+use lib.Seq.{length-take-le}
 use borrow.Author.Needs.{needs}
 use borrow.Author.Tests.{not-true}
 use Rattle.rules.proofs.Tests.{tests}
@@ -72,10 +73,18 @@ add-used c =
     let s = c .before .before .before in
     omega (arith, serve-used s, start (top s) .pre .3)
 
+-- the lines stand in the room
+lines-in : (s : tie.After-serve Inv-loop μ-loop) → s .serve .result .written ≤ length (s .serve .last .1 .1 .1 .1 .0)
+lines-in s = omega (arith, s .serve .ensures .1 .1 .1, s .serve .kept)
+
+slice-reshare-prefix-is-written : tie.Need-slice-reshare-prefix-is-written Inv-loop μ-loop
+slice-reshare-prefix-is-written c = lines-in (c .before .before .before)
+
+slice-aggregate-is-written : tie.Need-slice-aggregate-is-written Inv-loop μ-loop
+slice-aggregate-is-written c = sym (length-take-le _ _ (lines-in (c .before .before .before .before)))
+
 is-written-requires : tie.Need-is-written-requires Inv-loop μ-loop
-is-written-requires c κs =
-    let s = c .before .before .before .before in
-    omega (arith, s .serve .ensures .1 .1 .1, s .serve .kept)
+is-written-requires c κs = search needs
 
 add-offset : tie.Need-add-offset Inv-loop μ-loop
 add-offset c =
@@ -137,6 +146,8 @@ answered-spec =
     part-serve-end
     serve-requires
     add-used
+    slice-reshare-prefix-is-written
+    slice-aggregate-is-written
     is-written-requires
     add-offset
     sub-held
