@@ -120,8 +120,8 @@ fn wrong_change(sel: u64, n: u64, who: u64, d: u64) -> Change
     requires { ⌜ n ≤ 9999 ⌝ }
 {
     if sel < 32 {
-        let wide = Tunnel::new(16777216);
-        return Change::Wake(wide);
+        let too_large = Tunnel::new(16777216);
+        return Change::Wake(too_large);
     }
     if sel < 33 {
         let bad = bad_terms(who, d);
@@ -300,7 +300,7 @@ fn noted(old: Seen, reply: Reply) -> Seen {
     }
 }
 
-fn wide(b: u8) -> u64 {
+fn byte(b: u8) -> u64 {
     b as u64
 }
 
@@ -310,7 +310,7 @@ fn number(s: &[u8; 15], from: usize, to: usize) -> u64
     let mut x = 0u64;
     let mut i = from;
     while i < to {
-        x = (x % 1000000000 * 10 + wide(s[i]) % 16) % 10000000000;
+        x = (x % 1000000000 * 10 + byte(s[i]) % 16) % 10000000000;
         i += 1;
     }
     x
@@ -376,7 +376,7 @@ fn put(sum: u64) {
 }
 
 fn main() {
-    let mut input = [48u8; 15];
+    let mut input = [b'0'; 15];
     libc::read(STDIN_FILENO, &mut input);
     let n = least_one(number(&input, 0, 4));
     let mix = number(&input, 4, 5);

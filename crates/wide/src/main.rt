@@ -5,16 +5,15 @@ use lines::LONGEST_LINE;
 use turns::Change;
 use turns::Core;
 use turns::Description;
+use turns::LARGEST_TUNNEL;
 use turns::Reply;
 use units::Amount;
 use units::Moment;
 use units::Tunnel;
 ghost use Rattle.turns.specs.State.{ValidCore};
 
-// The largest identifier, and three above 24 bits: the next one, one with the same low 24 bits, and the largest 32-bit number.
-const LARGEST: u32 = 16777215;
-
-const NEXT: u32 = 16777216;
+// Three identifiers above the largest: the next one, one with the same low 24 bits, and the largest 32-bit number.
+const NEXT: u32 = LARGEST_TUNNEL + 1;
 
 const ALIKE: u32 = 33554431;
 
@@ -83,8 +82,8 @@ fn ordered(core: Core) -> Core
 }
 
 fn main() {
-    let core = called(Core::empty(), 0, admit(LARGEST, 3));
-    let core = called(core, 0, wake(LARGEST));
+    let core = called(Core::empty(), 0, admit(LARGEST_TUNNEL, 3));
+    let core = called(core, 0, wake(LARGEST_TUNNEL));
     let core = refused(core);
     ordered(core);
 }

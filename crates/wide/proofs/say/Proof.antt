@@ -7,7 +7,7 @@ use lib.ListN.{length, drop, replicate, length-append}
 use lib.Seq.{length-take-le}
 use borrow.Author.Needs.{needs}
 use Rattle.text.specs.Text.{over}
-use Rattle.lines.specs.Text.{lineIn}
+use Rattle.lines.specs.Text.{lineIn, longest}
 use Rattle.wide.proofs.say.Statement.{statement}
 use Rattle.wide.proofs.say.Tie as tie
 
@@ -15,7 +15,7 @@ filled : {r : ℕ} (text before : List ℕ) {after : List ℕ} → (r ≡ length
 filled text before (h, g) = omega (arith, h, ap length g, length-append text (drop (length text) before))
 
 abbrev room : List ℕ
-room = replicate 87 0
+room = replicate longest 0
 
 slice-aggregate-write-line : tie.Need-slice-aggregate-write-line
 slice-aggregate-write-line c = search needs
@@ -28,7 +28,8 @@ array-share-prefix-out c = filled (lineIn (c .before .before .before .args .repl
 
 slice-aggregate-write-all : tie.Need-slice-aggregate-write-all
 slice-aggregate-write-all c =
-    sym (length-take-le _ _ (filled (lineIn (c .before .before .before .before .args .reply) room) room (c .before .before .write-line .ensures)))
+    let wrote = c .before .before in
+    sym (length-take-le _ _ (filled (lineIn (wrote .before .before .args .reply) room) room (wrote .write-line .ensures)))
 
 write-all-requires : tie.Need-write-all-requires
 write-all-requires c κs = search needs
