@@ -8,6 +8,7 @@ use turns::Change;
 use turns::Core;
 use turns::Description;
 use turns::Holder;
+use turns::LARGEST_TUNNEL;
 use turns::Refusal;
 use turns::Reply;
 use turns::Report;
@@ -20,8 +21,10 @@ ghost use Prim.Native.Nat.{_≤_, _<_};
 // Stands for no timer; no timer is so late.
 const NEVER: u64 = 18446744073709551615;
 
-// Stands for idle; no identifier is so large.
-const NOBODY: u64 = 16777216;
+// No identifier is so large; it stands for idle too.
+const TOO_LARGE: u32 = LARGEST_TUNNEL + 1;
+
+const NOBODY: u64 = TOO_LARGE as u64;
 
 struct Event {
     now: Moment,
@@ -42,7 +45,7 @@ struct Seen {
 }
 
 fn id_of(k: u64) -> Tunnel {
-    Tunnel::new(((k % 1000000 + 1) * 791900 % 16777216) as u32)
+    Tunnel::new(((k % 1000000 + 1) * 791900 % NOBODY) as u32)
 }
 
 fn terms(k: u64, d: u64) -> Description {
@@ -120,7 +123,7 @@ fn wrong_change(sel: u64, n: u64, who: u64, d: u64) -> Change
     requires { ⌜ n ≤ 9999 ⌝ }
 {
     if sel < 32 {
-        let too_large = Tunnel::new(16777216);
+        let too_large = Tunnel::new(TOO_LARGE);
         return Change::Wake(too_large);
     }
     if sel < 33 {
