@@ -44,25 +44,7 @@ asked Tick = tick
 abbrev pub callOf : Moment → Change → Call
 callOf now change = record { now = now .0; asked = asked change }
 
--- who runs, idle for none
-abbrev pub holderSaid : Option ℕ → Holder
-holderSaid none = Idle
-holderSaid (some t) = Held (tunnel t)
-
-abbrev pub timerSaid : Option ℕ → Timer
-timerSaid none = Unset
-timerSaid (some t) = At (moment t)
-
-abbrev pub reportSaid : Told → Report
-reportSaid r =
-    record { time = moment (r .time); run = holderSaid (r .run); usable = amount (r .usable); timer = timerSaid (r .timer) }
-
--- the paper's number and detail of a refusal, and the values of an accepted call
-abbrev pub replySaid : Said → Reply
-replySaid (ok r) = Done (reportSaid r)
-replySaid (refused r) = No (record { number = r .number; detail = r .detail })
-
--- the other way: the paper's number and values for each case of the enums answered
+-- the paper's number and values for each case of the enums answered, as the promises use them; none is idle, or no timer
 abbrev pub paperHolder : Holder → Option ℕ
 paperHolder Idle = none
 paperHolder (Held t) = some (t .0)
@@ -76,17 +58,34 @@ paperReply (Done r) =
     ok (record { time = r .time .0; run = paperHolder (r .run); usable = r .usable .0; timer = paperTimer (r .timer) })
 paperReply (No x) = refused (record { number = x .number; detail = x .detail })
 
+-- the identifier is on the card
+abbrev pub paperPresence : Presence → Bool
+paperPresence OnCard = true
+paperPresence Absent = false
+
+-- the other way: the answer that has the paper's number and values
+abbrev pub holderSaid : Option ℕ → Holder
+holderSaid none = Idle
+holderSaid (some t) = Held (tunnel t)
+
+abbrev pub timerSaid : Option ℕ → Timer
+timerSaid none = Unset
+timerSaid (some t) = At (moment t)
+
+abbrev pub reportSaid : Told → Report
+reportSaid r =
+    record { time = moment (r .time); run = holderSaid (r .run); usable = amount (r .usable); timer = timerSaid (r .timer) }
+
+abbrev pub replySaid : Said → Reply
+replySaid (ok r) = Done (reportSaid r)
+replySaid (refused r) = No (record { number = r .number; detail = r .detail })
+
 abbrev pub answerOf : Given → Answer
 answerOf a = record { core = coreOf (a .card); reply = replySaid (a .reply) }
 
 -- the whole answer of a call at `now`: the rules' turn of the card that the core shows
 unfoldable pub turned : Core → Moment → Change → Answer
 turned c now change = answerOf (turn (card c) (callOf now change))
-
--- the identifier is on the card
-abbrev pub paperPresence : Presence → Bool
-paperPresence OnCard = true
-paperPresence Absent = false
 
 -- everything of a VCPU; where there is none, the record of a vacant place
 abbrev pub looked : Option Tenant → Vcpu

@@ -171,6 +171,7 @@ impl Core {
         let last = self.last;
         let mut ids = self.ids;
         let mut n = self.n;
+        // Sought once, for the rows and for the change; the rows need no more of the identifiers.
         let at = table::named(ids, change);
         let verdict = judge::judged(last, self.timer, at, n, now, change);
         match verdict {
