@@ -79,7 +79,8 @@ module _ (calls : List Asking) (now : Moment) (change : Change) where
   shown = kept (made calls) (tied calls .sound) now change .shows
 
   -- a fact of the VCPUs before and after, carried from the rules' cards to those shown
-  carried : (P : Card → List Tenant → Type 0) → P (after (callsOf calls)) (after (call ∷ callsOf calls) .vcpus) → P old (card (answer .core) .vcpus)
+  carried : (P : Card → List Tenant → Type 0) → P (after (callsOf calls)) (after (call ∷ callsOf calls) .vcpus)
+      → P old (card (answer .core) .vcpus)
   carried P p =
       subst (λ (k : Card). P old (k .vcpus)) (sym shown)
       (subst (λ (k : Card). P k ((turn k call) .card .vcpus)) (sym (tied calls .shows)) p)
@@ -121,7 +122,8 @@ module _ (calls : List Asking) (now : Moment) (change : Change) where
 told : (calls : List Asking) → exchanges calls ≡ heard (callsOf calls)
 told [] = refl
 told (a ∷ calls) =
-    same _ _ _ _ (paper calls (a .now) (a .change) ∙ ap (λ (k : Card). (turn k (callOf (a .now) (a .change))) .reply) (tied calls .shows)) (told calls)
+    same _ _ _ _ (paper calls (a .now) (a .change) ∙ ap (λ (k : Card). (turn k (callOf (a .now) (a .change))) .reply) (tied calls .shows))
+    (told calls)
   where
     same : (r r′ : Said) (l l′ : List Exchange) → r ≡ r′ → l ≡ l′
         → record { call = callOf (a .now) (a .change); reply = r } ∷ l ≡ record { call = callOf (a .now) (a .change); reply = r′ } ∷ l′
@@ -137,7 +139,8 @@ promised calls =
       demand3 = demand3 (callsOf calls);
       every-vcpu =
           subst (λ (l : List Exchange). All (ItsStay l) (card (made calls) .vcpus)) (sym (told calls))
-          (subst (λ (k : Card). All (ItsStay (heard (callsOf calls))) (k .vcpus)) (sym (tied calls .shows)) (demand3 (callsOf calls) .every-vcpu));
+          (subst (λ (k : Card). All (ItsStay (heard (callsOf calls))) (k .vcpus)) (sym (tied calls .shows))
+          (demand3 (callsOf calls) .every-vcpu));
       next = next calls;
     }
 

@@ -98,7 +98,8 @@ returned-due : (now : ℕ) (v : Tenant) (e : Entry) (q : List Entry) → e .due 
     → returned now (queued v (e ∷ q)) ≡ returned now (taken v e q)
 returned-due now v e q h =
     rw (le-leb (e .due) now h)
-    (ap (λ (u : ℕ). record { terms = v .terms; runnable = v .runnable; usable = u; ended = v .ended; pending = still now q }) (omega arith))
+    (ap (λ (u : ℕ). record { terms = v .terms; runnable = v .runnable; usable = u; ended = v .ended; pending = still now q })
+    (omega arith))
 
 pub returned-none : (now : ℕ) (v : Tenant) → now < front (v .pending) → returned now v ≡ v
 returned-none now v h = go (v .pending) refl h

@@ -86,7 +86,8 @@ module _ (p : List Vcpu) (ids : List Tunnel) (n : ℕ) (vs : List Tenant) (f : F
           places =
               ap (λ (k : ℕ). inserted k (written (admitted (described d))) p) spot-is
               ∙ ap (inserted (spotOf (admitted (described d)) vs) (written (admitted (described d)))) (f .places)
-              ∙ laid-put written (written noTenant) 32 vs (spotOf (admitted (described d)) vs) (admitted (described d)) (spot-most (admitted
+              ∙ laid-put written (written noTenant) 32 vs (spotOf (admitted (described d)) vs) (admitted (described d))
+              (spot-most (admitted
               (described d)) vs) (q .room)
               ∙ ap placesOf (sym (placed-put (admitted (described d)) vs));
           tunnels =

@@ -57,7 +57,8 @@ pub record Filled (p : List Vcpu) (ids : List Tunnel) (n : ℕ) (vs : List Tenan
   pub tunnels : ids ≡ idsOf vs
   pub count : n ≡ length vs
 
-pub filled-tenants : (p : List Vcpu) (ids : List Tunnel) (n : ℕ) (vs : List Tenant) → length vs ≤ 32 → All (λ v. length (v .pending) ≤ 8) vs
+pub filled-tenants : (p : List Vcpu) (ids : List Tunnel) (n : ℕ) (vs : List Tenant) → length vs ≤ 32
+    → All (λ v. length (v .pending) ≤ 8) vs
     → Filled p ids n vs → tenants n ids p ≡ vs
 filled-tenants p ids n vs few each f =
     rw (f .places, f .tunnels, f .count) (tenants-laid (tunnel nobody) (written noTenant) 32 vs few each)
@@ -272,7 +273,8 @@ module _ (c : Core) (r : SoundCore c) (now : Moment) (change : Change) (m : Pass
       (subst (Filled (set (c .places) (place (w .terms .tunnel) (card c .vcpus)) (written (charged (card c .last) (now .0) w))) (c .ids)
       (c .n))
       (sym charge-set)
-      (filled-set (c .places) (c .ids) (c .n) (place (w .terms .tunnel) (card c .vcpus)) (charged (card c .last) (now .0) w) (card c .vcpus)
+      (filled-set (c .places) (c .ids) (c .n) (place (w .terms .tunnel) (card c .vcpus)) (charged (card c .last) (now .0) w)
+      (card c .vcpus)
       (h .at .inside) (between c r .few) (ap (λ (d : Description). d .tunnel) terms-kept) (filled c r)))
     where
       written-charge : chargedOf (written w) (moment (card c .last)) now ≡ written (charged (card c .last) (now .0) w)

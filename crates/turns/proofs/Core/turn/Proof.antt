@@ -200,7 +200,8 @@ module _ (c : Returned) where
 
   after-return : FilledBy table (vs₂ j₂)
   after-return =
-      sweep-filled (now j₂) (core j₂ .ids) (core j₂ .n) (charged c .if1 .p) (c .before .loop .p) (c .before .loop .i) (c .before .loop .inv)
+      sweep-filled (now j₂) (core j₂ .ids) (core j₂ .n) (charged c .if1 .p) (c .before .loop .p) (c .before .loop .i)
+      (c .before .loop .inv)
       (c .loop-test .left) (vs₁ j₂) (after-charge (charged c) .filled) (after-charge (charged c) .fits)
 
   -- step 3 by the arm of the change: what it asks, and what it leaves

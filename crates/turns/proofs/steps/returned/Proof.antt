@@ -39,7 +39,8 @@ loop-again c = subst (λ (x : Vcpu). Returnable x (c .before .before .before .be
     (c .before .before .before .before .args .now .0) (bare x) ≡ returnedRule (c .before .before .before .before .args .now .0) (bare
     (c .before .before .before .before .args .v)))) (sym (c .returned-one .ensures)) (
       (one-again (c .before .before .before .loop .w)
-          (c .before .before .before .before .args .now) (c .before .before .before .loop .inv .0) (sym (c .before .before .due-by .ensures)
+          (c .before .before .before .before .args .now) (c .before .before .before .loop .inv .0)
+          (sym (c .before .before .due-by .ensures)
           ∙ c .before .if1 .taken)) .returnable,
       (one-again (c .before .before .before .loop .w) (c .before .before .before .before .args .now)
           (c .before .before .before .loop .inv .0) (sym (c .before .before .due-by .ensures) ∙ c .before .if1 .taken)) .end
