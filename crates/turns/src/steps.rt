@@ -88,7 +88,7 @@ fn joins(v: Vcpu, last: Moment) -> bool
     let ended = v.ended;
     let goes_on = ended.same(last);
     let waiting = 0 < v.count;
-    if waiting { goes_on } else { false }
+    waiting && goes_on
 }
 
 fn posted(v: Vcpu, used: Amount, last: Moment) -> Vcpu
@@ -223,7 +223,7 @@ fn ready(v: Vcpu) -> bool
     ensures { λ r. ⌜ r ≡ readyOf v ⌝ }
 {
     let ticks = v.usable.ticks();
-    if v.runnable { 0 < ticks } else { false }
+    v.runnable && 0 < ticks
 }
 
 // The earliest return that a runnable VCPU waits for.
