@@ -225,7 +225,7 @@ mod tests {
         assert!(talk(&["false"], &parts).is_err());
     }
 
-    const SHORT: Duration = Duration::from_millis(300);
+    const SHORT: Duration = Duration::from_secs(2);
 
     /// Reads one line, answers it and ends.
     const STOPS: [&str; 3] = ["sh", "-c", "read line; echo $line"];

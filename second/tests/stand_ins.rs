@@ -26,7 +26,7 @@ fn compared(stand_in: &str, wait: &str, after: &str, then: &str) -> Result<Strin
 }
 
 const ENOUGH: &str = "60";
-const SHORT: &str = "3";
+const SHORT: &str = "6";
 
 /// Every card that goes on so behind 20, 21 or 22 is found out, in this way.
 fn is_seen(numbers: &[&str], then: &str, way: &str, what: &str) {

@@ -16,7 +16,7 @@ use Rattle.rules.specs.Card.{Card, onCard}
 use Rattle.rules.specs.Change.{Change}
 use Rattle.rules.specs.Choose.{choose, runs}
 use Rattle.rules.specs.Timer.{timer}
-use Rattle.rules.specs.Refuse.{Refusal, row, aboveLargest, belowLast, later, rowLate, above24Bits, admitRows, callRows, refusal}
+use Rattle.rules.specs.Refuse.{Refusal, row, aboveLargest, belowLast, isLate, rowLate, above24Bits, admitRows, callRows, refusal}
 use Rattle.rules.specs.History.{holds}
 use Rattle.rules.proofs.Tests.{tests, clash, no-some, and-true}
 use Rattle.rules.proofs.Named.{named-itself}
@@ -51,7 +51,7 @@ passed c now asked e =
     late : (o : Option ℕ) (below : Option Refusal) → rowLate o now below ≡ none → ((t : ℕ) → o ≡ some t → now ≤ t) × (below ≡ none)
     late none below f = (λ t g. no-some g, f)
     late (some u) below f =
-        let p = row-passed (later u now) 3 u below f in
+        let p = row-passed (isLate u now) 3 u below f in
         (λ t g. let q : u ≡ t = cc in omega (arith, tests), p .1)
 
 -- "period 1 to 1,000,000, capacity 1 to the period"

@@ -13,7 +13,7 @@ use Rattle.rules.specs.Limits.{largestTime, largestTunnel, largestPeriod
 use Rattle.rules.specs.Vcpu.{Description}
 use Rattle.rules.specs.Card.{Card, onCard}
 use Rattle.rules.specs.Change.{Change, admit, wake, block, remove, tick}
-use Rattle.rules.specs.Refuse.{Refusal, row, aboveLargest, belowLast, later, rowLate, above24Bits, admitRows, namingRows}
+use Rattle.rules.specs.Refuse.{Refusal, row, aboveLargest, belowLast, isLate, rowLate, above24Bits, admitRows, namingRows}
 use Rattle.rules.specs.Refuse.{callRows, refusal}
 use Rattle.rules.specs.Turn.{Call, ok, refused, turn, accepted, answered, report, settled}
 use Rattle.rules.specs.Meaning.{OnTheCard}
@@ -152,7 +152,7 @@ module _ (c : Card) (call : Call) where
       → (below ≡ o → Above 4 → Says o) → Above 3 → Says o
   late o none e below w next a = next w (skip 3 (λ d r. no-some (sym e ∙ of-3 d r .0)) a)
   late o (some t) e below w next a =
-      step o (later t (call .now)) 3 t _ w (λ f. row-3 t e (omega (arith, tests)))
+      step o (isLate t (call .now)) 3 t _ w (λ f. row-3 t e (omega (arith, tests)))
       (λ f d r. let q : t ≡ d = same (c .timer) t d e (of-3 d r .0) in omega (arith, tests, of-3 d r .1)) next a
 
   -- "identifier above 24 bits"

@@ -26,13 +26,13 @@ aboveLargest now = ltb largestTime now
 abbrev pub belowLast : ℕ → ℕ → Bool
 belowLast last now = ltb now last
 
-abbrev pub later : ℕ → ℕ → Bool
-later t now = ltb t now
+abbrev pub isLate : ℕ → ℕ → Bool
+isLate t now = ltb t now
 
 -- "there is a timer and the time is later than it", with the timer as the detail
 abbrev pub rowLate : Option ℕ → ℕ → Option Refusal → Option Refusal
 rowLate none now below = below
-rowLate (some t) now below = row (later t now) 3 t below
+rowLate (some t) now below = row (isLate t now) 3 t below
 
 abbrev pub timeRows : ℕ → Option ℕ → ℕ → Option Refusal → Option Refusal
 timeRows last timer now below = row (aboveLargest now) 1 0 (row (belowLast last now) 2 0 (rowLate timer now below))

@@ -39,13 +39,13 @@ module _ (c : Core) (r : SoundCore c) (now : Moment) (change : Change) (e : refu
       (change-ranked (card c) (now .0) change (meets .asked-for) (r .ranked))
 
 -- one call: the core handed back is sound, and shows the card that the rules hand back
-pub record Kept (c : Core) (now : Moment) (change : Change) : Type 0 where
+pub record OneCall (c : Core) (now : Moment) (change : Change) : Type 0 where
   pub sound : SoundCore ((turned c now change) .core)
   pub shows : card ((turned c now change) .core) ≡ (turn (card c) (callOf now change)) .card
 
-pub kept : (c : Core) → SoundCore c → (now : Moment) (change : Change) → Kept c now change
+pub one-call : (c : Core) → SoundCore c → (now : Moment) (change : Change) → OneCall c now change
 unfolding turned turn
-kept c r now change =
+one-call c r now change =
     record {
       sound = sound (refusal (card c) (now .0) (asked change)) refl;
       shows = shows (refusal (card c) (now .0) (asked change)) refl;
@@ -64,15 +64,15 @@ kept c r now change =
         (next-between c r now change e)
     shows (some x) e = ap card (sym (r .written))
 
-pub record Tied (l : List Asking) : Type 0 where
+pub record MadeSo (l : List Asking) : Type 0 where
   pub sound : SoundCore (made l)
   pub shows : card (made l) ≡ after (callsOf l)
 
-pub tied : (l : List Asking) → Tied l
-tied [] = record { sound = empty-sound; shows = empty-shown }
-tied (a ∷ l) =
-    let m : Tied l = tied l in
-    let k : Kept (made l) (a .now) (a .change) = kept (made l) (m .sound) (a .now) (a .change) in
+pub made-so : (l : List Asking) → MadeSo l
+made-so [] = record { sound = empty-sound; shows = empty-shown }
+made-so (a ∷ l) =
+    let m : MadeSo l = made-so l in
+    let k : OneCall (made l) (a .now) (a .change) = one-call (made l) (m .sound) (a .now) (a .change) in
     record {
       sound = k .sound;
       shows = k .shows ∙ ap (λ (c : Card). (turn c (callOf (a .now) (a .change))) .card) (m .shows);
@@ -80,7 +80,7 @@ tied (a ∷ l) =
 
 -- what every core in a contract is known to be
 pub sound : (c : Core) → ValidCore c → SoundCore c
-sound c v = subst SoundCore (sym (v .made-by)) (tied (v .calls) .sound)
+sound c v = subst SoundCore (sym (v .made-by)) (made-so (v .calls) .sound)
 
 -- the empty core, and one call more
 pub first : (c : Core) → c ≡ coreOf empty → (c ≡ coreOf empty) × ValidCore c

@@ -37,7 +37,7 @@ use Rattle.turns.specs.Calls.{asked, callOf, paperReply, replySaid, repo
 use Rattle.turns.specs.State.{Asking, made, callsOf, ValidCore}
 use Rattle.turns.specs.Promised.{Called, none-yet, one-more, exchanges, Accepted, Next, Promised}
 use Rattle.turns.proofs.Paper.{paper-said, said-paper, whole-answer}
-use Rattle.turns.proofs.Made.{kept, tied}
+use Rattle.turns.proofs.Made.{one-call, made-so}
 
 -- one call more
 module _ (calls : List Asking) (now : Moment) (change : Change) where
@@ -76,17 +76,17 @@ module _ (calls : List Asking) (now : Moment) (change : Change) where
   no-row r e = (table old call .accepts) .0 (told-so r e)
 
   shown : card (answer .core) ≡ (turn old call) .card
-  shown = kept (made calls) (tied calls .sound) now change .shows
+  shown = one-call (made calls) (made-so calls .sound) now change .shows
 
   -- a fact of the VCPUs before and after, carried from the rules' cards to those shown
   carried : (P : Card → List Tenant → Type 0) → P (after (callsOf calls)) (after (call ∷ callsOf calls) .vcpus)
       → P old (card (answer .core) .vcpus)
   carried P p =
       subst (λ (k : Card). P old (k .vcpus)) (sym shown)
-      (subst (λ (k : Card). P k ((turn k call) .card .vcpus)) (sym (tied calls .shows)) p)
+      (subst (λ (k : Card). P k ((turn k call) .card .vcpus)) (sym (made-so calls .shows)) p)
 
   none-after : NoRow old call → NoRow (after (callsOf calls)) call
-  none-after n = subst (λ (k : Card). NoRow k call) (tied calls .shows) n
+  none-after n = subst (λ (k : Card). NoRow k call) (made-so calls .shows) n
 
   next : Next (made calls) now change answer
   unfolding turned
@@ -98,7 +98,7 @@ module _ (calls : List Asking) (now : Moment) (change : Change) where
         );
         hands-back = λ x e.
             ap coreOf (table old call .hands-back (record { number = x .number; detail = x .detail }) (sym paper ∙ ap paperReply e))
-            ∙ sym (tied calls .sound .written);
+            ∙ sym (made-so calls .sound .written);
         accepts = (
           λ r. no-row (r .0) (r .1),
           λ n. (
@@ -122,7 +122,7 @@ module _ (calls : List Asking) (now : Moment) (change : Change) where
 told : (calls : List Asking) → exchanges calls ≡ heard (callsOf calls)
 told [] = refl
 told (a ∷ calls) =
-    same _ _ _ _ (paper calls (a .now) (a .change) ∙ ap (λ (k : Card). (turn k (callOf (a .now) (a .change))) .reply) (tied calls .shows))
+    same _ _ _ _ (paper calls (a .now) (a .change) ∙ ap (λ (k : Card). (turn k (callOf (a .now) (a .change))) .reply) (made-so calls .shows))
     (told calls)
   where
     same : (r r′ : Said) (l l′ : List Exchange) → r ≡ r′ → l ≡ l′
@@ -132,14 +132,14 @@ told (a ∷ calls) =
 pub promised : (calls : List Asking) → Promised calls
 promised calls =
     record {
-      shows = tied calls .shows;
-      is = tied calls .sound .written ∙ ap coreOf (tied calls .shows);
-      meaning = subst Meaning (sym (tied calls .shows)) (meaning (callsOf calls));
+      shows = made-so calls .shows;
+      is = made-so calls .sound .written ∙ ap coreOf (made-so calls .shows);
+      meaning = subst Meaning (sym (made-so calls .shows)) (meaning (callsOf calls));
       told = told calls;
       demand3 = demand3 (callsOf calls);
       every-vcpu =
           subst (λ (l : List Exchange). All (ItsStay l) (card (made calls) .vcpus)) (sym (told calls))
-          (subst (λ (k : Card). All (ItsStay (heard (callsOf calls))) (k .vcpus)) (sym (tied calls .shows))
+          (subst (λ (k : Card). All (ItsStay (heard (callsOf calls))) (k .vcpus)) (sym (made-so calls .shows))
           (demand3 (callsOf calls) .every-vcpu));
       next = next calls;
     }
