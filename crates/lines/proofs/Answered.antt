@@ -24,27 +24,11 @@ use Rattle.records.proofs.Behind.{read-waits}
 use Rattle.lines.specs.Text.{lineOf}
 use Rattle.lines.specs.Serve.{Run, timeOf, changeOf, rests, stops, waitsFor, refuses, behind, full, less, serveOf}
 use Rattle.lines.specs.Asked.{Asked, askingOf, askedAfter, replies, linesOf, lastLine}
+use Rattle.lines.specs.Answers.{isThere, Answered}
 use Rattle.lines.proofs.Reading.{some-bytes}
 use Rattle.lines.proofs.Served.{serve-end, serve-full, serve-no, serve-event}
 use Rattle.lines.proofs.Rest.{Left, rest-left}
 use Rattle.lines.proofs.Asked.{asked-end, asked-event, asked-no}
-
-abbrev pub isThere : Option Refusal → Bool
-isThere none = false
-isThere (some r) = true
-
--- a part of the input, served with any room for lines from the core that the calls before made
-pub record Answered (before : List Asking) (s : List ℕ) (last : Bool) (run : Run) : Type 0 where
-  -- the calls before and those of the records answered, and the refusal at which it stopped
-  pub calls : List Asking
-  pub stop : Option Refusal
-  pub core-is : run .core ≡ made calls
-  pub stopped-is : run .stopped ≡ isThere stop
-  pub lines-are : linesOf (replies before) ++ run .lines ≡ linesOf (replies calls) ++ lastLine stop
-  -- the bytes that are left ask for the rest
-  pub rest-asks : askedAfter before s ≡ askedAfter calls (drop (run .used) s)
-  pub refused : (r : Refusal) → stop ≡ some r
-      → (waitsFor r last ≡ false) × (askedAfter before s ≡ record { calls = calls; refusal = some r })
 
 -- the refusal that is answered: a record cut short waits for the rest, unless no more input will come
 abbrev pub answeredNow : Bool → Option Refusal → Option Refusal

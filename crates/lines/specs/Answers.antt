@@ -3,10 +3,11 @@
 -- proofs/Answers. Assumes nothing.
 use Prim.Native.Nat.{ℕ}
 use mathlib.Core.Path.{_≡_}
-use mathlib.Core.Bool.{true}
+use mathlib.Core.Bool.{Bool, true, false}
 use mathlib.Core.List.{List, [], _∷_, _++_, map}
 use mathlib.Core.Option.{Option, none, some}
 use lib.Dec.{eqb}
+use lib.ListN.{drop}
 use Rattle.rules.specs.Lists.{count, All, Among}
 use Rattle.turns.specs.declared.Refusal.{Refusal}
 use Rattle.turns.specs.Calls.{paperReply}
@@ -14,9 +15,9 @@ use Rattle.turns.specs.State.{Asking, made, callsOf}
 use Rattle.turns.specs.Promised.{exchanges, Promised}
 use Rattle.records.specs.Bytes.{AreBytes}
 use Rattle.records.specs.Encode.{InRange}
-use Rattle.lines.specs.Serve.{serveOf, cardLines}
+use Rattle.lines.specs.Serve.{Run, waitsFor, serveOf, cardLines}
 use Rattle.lines.specs.Parts.{Part, onePiece, inParts}
-use Rattle.lines.specs.Asked.{asked, sent, Ended, records, replies, linesOf, lastLine}
+use Rattle.lines.specs.Asked.{askedAfter, asked, sent, Ended, records, replies, linesOf, lastLine}
 
 abbrev pub newlines : List ℕ → ℕ
 newlines text = count (eqb 10) text
@@ -25,6 +26,23 @@ newlines text = count (eqb 10) text
 abbrev pub stopsAt : List Refusal
 stopsAt =
     record { number = 20; detail = 0 } ∷ record { number = 21; detail = 0 } ∷ record { number = 22; detail = 0 } ∷ []
+
+abbrev pub isThere : Option Refusal → Bool
+isThere none = false
+isThere (some r) = true
+
+-- a part of the input, served with any room for lines from the core that the calls before made
+pub record Answered (before : List Asking) (s : List ℕ) (last : Bool) (run : Run) : Type 0 where
+  -- the calls before and those of the records answered, and the refusal at which it stopped
+  pub calls : List Asking
+  pub stop : Option Refusal
+  pub core-is : run .core ≡ made calls
+  pub stopped-is : run .stopped ≡ isThere stop
+  pub lines-are : linesOf (replies before) ++ run .lines ≡ linesOf (replies calls) ++ lastLine stop
+  -- the bytes that are left ask for the rest
+  pub rest-asks : askedAfter before s ≡ askedAfter calls (drop (run .used) s)
+  pub refused : (r : Refusal) → stop ≡ some r
+      → (waitsFor r last ≡ false) × (askedAfter before s ≡ record { calls = calls; refusal = some r })
 
 -- the whole input, from the empty core
 pub record Answers (input : List ℕ) : Type 0 where

@@ -14,7 +14,7 @@ use Rattle.rules.specs.Meaning.{InRange}
 use Rattle.rules.proofs.Queue.{total, Rising, rising-wide, posts, brought-all, stays-behind}
 
 -- the due times lie between `low` and `high`; the latest use ended by `now`
-pub record Kept (low high now : ℕ) (v : Vcpu) : Type 0 where
+pub record Orderly (low high now : ℕ) (v : Vcpu) : Type 0 where
   pub range : InRange (v .terms)
   pub whole : v .usable + total (v .pending) ≡ v .terms .capacity
   pub order : Rising low high (v .pending)
@@ -23,7 +23,7 @@ pub record Kept (low high now : ℕ) (v : Vcpu) : Type 0 where
 
 -- after an accepted call at `last` all that is pending is still to come, within one period
 abbrev pub Sound : ℕ → Vcpu → Type 0
-Sound last v = Kept (suc last) (last + v .terms .period) last v
+Sound last v = Orderly (suc last) (last + v .terms .period) last v
 
 pub sound-admitted : (now : ℕ) (d : Description) → InRange d → Sound now (admitted d)
 sound-admitted now d r = record { range = r; whole = omega arith; order = tt; few = omega arith; used = omega arith }
@@ -33,18 +33,18 @@ sound-set last b v s =
     record { range = s .range; whole = s .whole; order = s .order; few = s .few; used = s .used }
 
 pub kept-charged : (last d : ℕ) (v : Vcpu) → d ≤ v .usable → Sound last v
-    → Kept (suc last) (last + v .terms .period) (last + d) (charged last (last + d) v)
+    → Orderly (suc last) (last + v .terms .period) (last + d) (charged last (last + d) v)
 unfolding charged
 kept-charged last d v h s = go (noTicks last (last + d)) refl
   where
     go : (b : Bool) → noTicks last (last + d) ≡ b
-        → Kept (suc last) (last + v .terms .period) (last + d) (cond b v (chargedSome last (last + d) v))
+        → Orderly (suc last) (last + v .terms .period) (last + d) (cond b v (chargedSome last (last + d) v))
     go true z = record { range = s .range; whole = s .whole; order = s .order; few = s .few; used = omega (arith, s .used) }
     go false z =
         let p = posts last (last + d - last) v (s .range .period-low) (s .order) (s .few) in
         record { range = s .range; whole = omega (arith, p .in-all, s .whole); order = p .order; few = p .few; used = omega arith }
 
-pub sound-returned : (low high now : ℕ) (v : Vcpu) → high ≤ now + v .terms .period → Kept low high now v → Sound now (returned now v)
+pub sound-returned : (low high now : ℕ) (v : Vcpu) → high ≤ now + v .terms .period → Orderly low high now v → Sound now (returned now v)
 sound-returned low high now v h k =
     let s = stays-behind now low high (v .pending) (k .order) in
     record {

@@ -17,7 +17,7 @@ use Rattle.rules.specs.History.{after, heard, past}
 use Rattle.rules.specs.Stays.{stays}
 use Rattle.rules.specs.Meaning.{InRange, pendingTicks, Sorted}
 use Rattle.rules.proofs.Named.{named-itself}
-use Rattle.rules.proofs.Sound.{Kept, Sound}
+use Rattle.rules.proofs.Sound.{Orderly, Sound}
 use Rattle.rules.proofs.Reached.{Reached, reached}
 use Rattle.rules.proofs.Meaning.{meaning}
 use Rattle.turns.specs.declared.Core.{Core}
@@ -61,7 +61,7 @@ pub record Fits (v : Tenant) : Type 0 where
   pub whole : v .usable + pendingTicks v ≡ v .terms .capacity
   pub few : length (v .pending) ≤ mostPending
 
-pub kept-fits : (low high now : ℕ) (v : Tenant) → Kept low high now v → Fits v
+pub kept-fits : (low high now : ℕ) (v : Tenant) → Orderly low high now v → Fits v
 kept-fits low high now v k = record { range = k .range; whole = k .whole; few = k .few }
 
 -- the rules count those so named; one that stands once stands nowhere else

@@ -6,7 +6,7 @@ use mathlib.Core.List.{List, [], _∷_, _++_, map}
 use native.Mathlib.Omega.{arith}
 use lib.ListN.{length, take, getD, set}
 use Rattle.turns.specs.Laid.{laid}
-use Rattle.turns.specs.Table.{inserted, removed}
+use Rattle.turns.specs.Places.{inserted, removed}
 
 module _ {A : Type 0} where
   -- put in at a place, and taken out of one

@@ -22,7 +22,7 @@ use Rattle.turns.specs.declared.Vcpu.{Vcpu}
 use Rattle.turns.specs.Laid.{laid}
 use Rattle.turns.specs.Written.{nobody, tunnelOf, written, place}
 use Rattle.turns.proofs.Invariant.{Distinct, termsOf}
-use Rattle.turns.specs.Table.{seek, urgency, spotIn}
+use Rattle.turns.specs.Places.{seek, urgency, spotIn}
 use Rattle.turns.proofs.Laid.{putAt, cutAt}
 
 -- the place of one that is there, and of one that is not

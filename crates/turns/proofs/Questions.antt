@@ -22,7 +22,7 @@ use Rattle.turns.specs.declared.Holder.the-variants.{Vcpu as Held}
 use Rattle.turns.specs.declared.Holder.the-variants.{Idle as Idle′}
 use Rattle.turns.specs.Written.{idle, nobody, tunnelOf, written, noTenant, card, place, runningAt}
 use Rattle.turns.proofs.Invariant.{SoundCore, between}
-use Rattle.turns.specs.Table.{seek, holderOf}
+use Rattle.turns.specs.Places.{seek, holderOf}
 use Rattle.turns.specs.Calls.{holderSaid, looked, paperHolder}
 use Rattle.turns.proofs.Laid.{laid-get, laid-length}
 use Rattle.turns.proofs.Places.{place-there, seek-laid}

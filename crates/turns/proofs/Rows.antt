@@ -25,7 +25,7 @@ use Rattle.turns.specs.declared.Change.{Change}
 use Rattle.turns.specs.declared.Change.the-variants.{Admit, Wake, Block, Remove, Tick}
 use Rattle.turns.specs.Laid.{laid}
 use Rattle.turns.specs.Written.{never, nobody, tunnelOf, place, timerOf}
-use Rattle.turns.specs.Table.{seek, nowhere, namedAt}
+use Rattle.turns.specs.Places.{seek, nowhere, namedAt}
 use Rattle.turns.specs.Judge.{refuse, verdictRow, judgeAdmit, judgeNaming, judgeCall, judge}
 use Rattle.turns.specs.Calls.{described, asked}
 use Rattle.turns.proofs.Places.{place-there, seek-laid}

@@ -47,7 +47,7 @@ use Rattle.turns.specs.Written.{never, idle, nobody, tunnelOf, written, 
 use Rattle.turns.specs.Written.{coreOf, place, placeOf, timerOf, timerAt, runningAt, tenants}
 use Rattle.turns.proofs.Invariant.{Ranked, termsOf, SoundCore, Between}
 use Rattle.turns.specs.Steps.{picks, pickedOf, timerFor}
-use Rattle.turns.specs.Table.{holderOf}
+use Rattle.turns.specs.Places.{holderOf}
 use Rattle.turns.specs.Calls.{holderSaid, timerSaid, asked, callOf, answerOf, turned}
 use Rattle.turns.proofs.Laid.{laid-get, laid-front}
 use Rattle.turns.proofs.Written.{tenants-laid}

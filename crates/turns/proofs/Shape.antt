@@ -25,7 +25,7 @@ use Rattle.turns.specs.declared.Change.the-variants.{Admit, Wake, Block,
 use Rattle.turns.specs.Written.{nobody, tunnelOf, written, noTenant, place}
 use Rattle.turns.proofs.Invariant.{Ranked, Distinct, termsOf, Listed}
 use Rattle.turns.specs.Steps.{runnableAs}
-use Rattle.turns.specs.Table.{seek, namedAt, spotIn, inserted, removed}
+use Rattle.turns.specs.Places.{seek, namedAt, spotIn, inserted, removed}
 use Rattle.turns.specs.Calls.{described, asked}
 use Rattle.turns.proofs.Laid.{cutAt, laid-get, laid-put, laid-cut}
 use Rattle.turns.proofs.Places.{place-there, named-set, removed-cut, spotOf, spot-most, spot-laid, placed-put}

@@ -14,7 +14,7 @@ use Rattle.units.specs.declared.Tunnel.{Tunnel}
 use Rattle.rules.specs.Vcpu.{moreUrgent}
 use Rattle.rules.specs.Vcpu.{Description as Terms}
 use Rattle.turns.specs.declared.Vcpu.{Vcpu}
-use Rattle.turns.specs.Table.{seek, urgency, spotIn, inserted, removed}
+use Rattle.turns.specs.Places.{seek, urgency, spotIn, inserted, removed}
 
 module _ (t : ℕ) (l : List Tunnel) (k : ℕ) (h : k < length l) where
   pub seek-here : eqb (getD l k (tunnel 0) .0) t ≡ true → seek t (drop k l) ≡ 0

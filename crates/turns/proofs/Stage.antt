@@ -44,7 +44,7 @@ use Rattle.rules.specs.Refuse.{Refusal as Row}
 use Rattle.turns.specs.declared.Refusal.{Refusal}
 use Rattle.turns.specs.declared.Verdict.{Verdict}
 use Rattle.turns.specs.declared.Verdict.the-variants.{Accept, Refuse}
-use Rattle.turns.specs.Table.{namedAt}
+use Rattle.turns.specs.Places.{namedAt}
 use Rattle.turns.specs.Judge.{judge}
 use Rattle.turns.specs.Calls.{asked}
 

@@ -10,7 +10,7 @@ use Rattle.turns.specs.declared.Verdict.the-variants.{Accept, Refuse}
 use Rattle.turns.specs.declared.Description.{Description}
 use Rattle.turns.specs.declared.Change.{Change}
 use Rattle.turns.specs.declared.Change.the-variants.{Admit, Wake, Block, Remove, Tick}
-use Rattle.turns.specs.Table.{nowhere}
+use Rattle.turns.specs.Places.{nowhere}
 
 abbrev pub refuse : ℕ → ℕ → Verdict
 refuse number detail = Refuse (record { number = number; detail = detail })

@@ -13,7 +13,7 @@ ghost use Prim.Native.Nat.{_≤_, _<_};
 ghost use Rattle.rules.specs.Limits.{mostVcpus};
 ghost use Rattle.rules.specs.Vcpu.{moreUrgent};
 ghost use Rattle.turns.specs.Calls.{described};
-ghost use Rattle.turns.specs.Table.{seek, namedAt, holderOf, urgency, spotIn, inserted, removed};
+ghost use Rattle.turns.specs.Places.{seek, namedAt, holderOf, urgency, spotIn, inserted, removed};
 
 // The place of an identifier.
 pub(crate) fn find(ids: [Tunnel; MOST_VCPUS], id: Tunnel) -> usize

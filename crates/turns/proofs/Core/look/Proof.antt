@@ -9,7 +9,7 @@ use borrow.Author.Needs.{needs}
 use borrow.Author.Tests.{leb-true, leb-false, ltb-true, ltb-false}
 use Rattle.rules.specs.Limits.{largestTunnel}
 use Rattle.turns.specs.declared.Core.{Core}
-use Rattle.turns.specs.Table.{nowhere, seek}
+use Rattle.turns.specs.Places.{nowhere, seek}
 use Rattle.turns.proofs.Invariant.{SoundCore}
 use Rattle.turns.proofs.Made.{sound}
 use Rattle.turns.proofs.Questions.{unread, wide-sought, there-sought, absent-sought}

@@ -28,7 +28,7 @@ use Rattle.turns.specs.declared.Reply.the-variants.{Done}
 use Rattle.turns.specs.declared.Vcpu.{Vcpu}
 use Rattle.turns.specs.Calls.{asked, described}
 use Rattle.turns.specs.Steps.{picks}
-use Rattle.turns.specs.Table.{inserted, namedAt, removed}
+use Rattle.turns.specs.Places.{inserted, namedAt, removed}
 use Rattle.turns.specs.Written.{card, never, noTenant, written}
 use Rattle.turns.proofs.Choose.{pickFor}
 use Rattle.turns.proofs.Invariant.{Between, Listed, SoundCore, between}

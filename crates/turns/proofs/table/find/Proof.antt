@@ -1,7 +1,7 @@
 -- `turns::table::find` meets its contract: the loop has looked at the first k places.
 -- Assumes nothing.
 use lib.ListN.{drop-of-length-le, length, drop}
-use Rattle.turns.specs.Table.{seek}
+use Rattle.turns.specs.Places.{seek}
 use Rattle.turns.proofs.Shift.{seek-here, seek-on}
 use borrow.Author.Needs.{needs}
 use Prim.Native.Nat.{ℕ, _+_, _-_, _≤_, _<_}

@@ -7,7 +7,7 @@ use native.Mathlib.Omega.{arith}
 use lib.ListN.{length, drop}
 use borrow.Author.Needs.{needs}
 use Rattle.turns.specs.Calls.{described}
-use Rattle.turns.specs.Table.{spotIn}
+use Rattle.turns.specs.Places.{spotIn}
 use Rattle.turns.proofs.Questions.{unread}
 use Rattle.turns.proofs.Shift.{spot-start, spot-here, spot-on, spot-end}
 use Rattle.turns.proofs.table.spot.Statement.{statement}
