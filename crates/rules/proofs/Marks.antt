@@ -223,7 +223,8 @@ module _ (c : Card) (now : ℕ) (once : (t : ℕ) → count (named t) (c .vcpus)
     left-there u f = (
       λ p. stays-there u .0 (p .0, among-keep (λ v. not (named t v)) (afterReturn c now) (p .0) (p .1) .0, p .2),
       λ p. let q = stays-there u .1 p in
-          (q .0, keep-among (λ v. not (named t v)) (afterReturn c now) (q .0) (q .1) (rw (not-named t (q .0) (λ e. f (sym e ∙ q .2)))), q .2),
+          let n = not-named t (q .0) (λ e. f (sym e ∙ q .2)) in
+          (q .0, keep-among (λ v. not (named t v)) (afterReturn c now) (q .0) (q .1) (rw n), q .2),
     )
 
   -- wake, block, tick: everybody stays

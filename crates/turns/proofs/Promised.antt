@@ -122,8 +122,8 @@ module _ (calls : List Asking) (now : Moment) (change : Change) where
 told : (calls : List Asking) → exchanges calls ≡ heard (callsOf calls)
 told [] = refl
 told (a ∷ calls) =
-    same _ _ _ _ (paper calls (a .now) (a .change) ∙ ap (λ (k : Card). (turn k (callOf (a .now) (a .change))) .reply) (made-so calls .shows))
-    (told calls)
+    let again = ap (λ (k : Card). (turn k (callOf (a .now) (a .change))) .reply) (made-so calls .shows) in
+    same _ _ _ _ (paper calls (a .now) (a .change) ∙ again) (told calls)
   where
     same : (r r′ : Said) (l l′ : List Exchange) → r ≡ r′ → l ≡ l′
         → record { call = callOf (a .now) (a .change); reply = r } ∷ l ≡ record { call = callOf (a .now) (a .change); reply = r′ } ∷ l′
