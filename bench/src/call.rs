@@ -6,6 +6,8 @@ pub struct Description {
     pub period: u32,
     pub capacity: u32,
     pub priority: u8,
+    /// The byte that was asked for.
+    pub kind: u8,
 }
 
 #[derive(Clone, Copy)]
@@ -44,5 +46,7 @@ pub trait Scheduler {
 pub const LARGEST_TIME: u64 = 1_000_000_000_000;
 pub const LARGEST_IDENTIFIER: u32 = 0xff_ffff;
 pub const LARGEST_PERIOD: u32 = 1_000_000;
+pub const SPORADIC: u8 = 0;
+pub const POLLING: u8 = 2;
 pub const MOST_VCPUS: usize = 32;
 pub const MOST_PENDING: usize = 8;

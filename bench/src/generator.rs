@@ -3,7 +3,8 @@
 use crate::call::{Change, Description, Reply};
 use std::fmt::{self, Display, Formatter};
 
-/// What is asked: how many VCPUs, mixed (0) or busy, how many calls.
+/// What is asked: how many VCPUs; mixed (0), busy (1), or mixed with a third of the VCPUs of each
+/// kind (2); how many calls.
 #[derive(Clone, Copy)]
 pub struct Plan {
     pub vcpus: u64,
@@ -48,19 +49,29 @@ fn id_of(k: u64) -> u32 {
     ((k + 1) * 791900 % 16777216) as u32
 }
 
-fn terms(k: u64, d: u64) -> Description {
+/// All are sporadic, but for the mix of the three kinds.
+fn kind_in(mix: u64, d: u64) -> u8 {
+    if mix == 2 {
+        (d / 7 % 3) as u8
+    } else {
+        0
+    }
+}
+
+fn terms(k: u64, d: u64, kind: u8) -> Description {
     Description {
         id: id_of(k),
         period: (50 + d % 1000) as u32,
         capacity: (1 + d % 20) as u32,
         priority: (d % 7) as u8,
+        kind,
     }
 }
 
-fn bad_terms(k: u64, d: u64) -> Description {
+fn bad_terms(k: u64, d: u64, kind: u8) -> Description {
     Description {
         capacity: 0,
-        ..terms(k, d)
+        ..terms(k, d, kind)
     }
 }
 
@@ -77,43 +88,44 @@ fn busy(n: u64, d: u64, last: u64, timer: u64) -> (u64, Change) {
 }
 
 /// A call that some row refuses; the late one is accepted where the timer is later still.
-fn wrong(sel: u64, n: u64, d: u64, last: u64, now: u64) -> (u64, Change) {
+fn wrong(sel: u64, n: u64, d: u64, kind: u8, last: u64, now: u64) -> (u64, Change) {
     let who = d / 512 % n;
     match sel {
         28 => (last + 21, Change::Wake(id_of(who))),
         29 => (last.saturating_sub(1), Change::Tick),
         30 => (1000000000001, Change::Tick),
         31 => (now, Change::Wake(16777216)),
-        32 => (now, Change::Admit(bad_terms(who, d))),
+        32 => (now, Change::Admit(bad_terms(who, d, kind))),
         33 => (now, Change::Wake(id_of(n))),
-        34 if n >= 32 => (now, Change::Admit(terms(n, d))),
-        _ => (now, Change::Admit(terms(who, d))),
+        34 if n >= 32 => (now, Change::Admit(terms(n, d, kind))),
+        _ => (now, Change::Admit(terms(who, d, kind))),
     }
 }
 
 /// Once in 32 calls a VCPU is removed, and admitted anew by the next call.
-fn mixed(k: u64, n: u64, d: u64, last: u64, timer: u64) -> (u64, Change) {
+fn mixed(k: u64, n: u64, d: u64, kind: u8, last: u64, timer: u64) -> (u64, Change) {
     let now = (last + d / 32 % 16).min(timer);
     let who = id_of(d / 512 % n);
     let place = k / 32 % n;
     match (k % 32, d % 36) {
         (0, _) => (now, Change::Remove(id_of(place))),
-        (1, _) => (now, Change::Admit(terms(place, d))),
+        (1, _) => (now, Change::Admit(terms(place, d, kind))),
         (_, 0..=9) => (now, Change::Tick),
         (_, 10..=19) => (now, Change::Wake(who)),
         (_, 20..=27) => (now, Change::Block(who)),
-        (_, sel) => wrong(sel, n, d, last, now),
+        (_, sel) => wrong(sel, n, d, kind, last, now),
     }
 }
 
 fn call(k: u64, plan: Plan, s: u64, seen: &Seen) -> (u64, Change) {
     let (n, d) = (plan.vcpus, s / 64);
+    let kind = kind_in(plan.mix, d);
     if k < n {
-        (seen.last, Change::Admit(terms(k, d)))
+        (seen.last, Change::Admit(terms(k, d, kind)))
     } else if k < n + n {
         (seen.last, Change::Wake(id_of(k - n)))
-    } else if plan.mix == 0 {
-        mixed(k, n, d, seen.last, seen.timer)
+    } else if plan.mix == 0 || plan.mix == 2 {
+        mixed(k, n, d, kind, seen.last, seen.timer)
     } else {
         busy(n, d, seen.last, seen.timer)
     }
@@ -152,4 +164,55 @@ pub fn run(plan: Plan, mut turn: impl FnMut(u64, Change) -> Reply) -> Seen {
         seen.note(turn(now, change));
     }
     seen
+}
+
+#[cfg(test)]
+mod tests {
+    use super::*;
+    use crate::call::Scheduler;
+    use crate::{plain, twin};
+
+    fn said(plan: Plan, mut core: impl Scheduler) -> String {
+        run(plan, |now, change| core.turn(now, change)).to_string()
+    }
+
+    #[test]
+    fn plain_and_twin_reply_alike() {
+        for mix in 0..=2 {
+            for vcpus in [1, 8, 32] {
+                let calls = 30_000;
+                let plan = Plan { vcpus, mix, calls };
+                let twin = said(plan, twin::Core::empty());
+                assert_eq!(
+                    said(plan, plain::Core::empty()),
+                    twin,
+                    "{mix}, {vcpus} VCPUs"
+                );
+            }
+        }
+    }
+
+    #[test]
+    fn a_third_of_the_admits_is_of_each_kind() {
+        let mut core = plain::Core::empty();
+        let plan = Plan {
+            vcpus: 32,
+            mix: 2,
+            calls: 30_000,
+        };
+        let mut admits = [0; 3];
+        run(plan, |now, change| {
+            if let Change::Admit(new) = change {
+                admits[usize::from(new.kind)] += 1;
+            }
+            core.turn(now, change)
+        });
+        let all: u64 = admits.iter().sum();
+        assert!(
+            admits
+                .iter()
+                .all(|&count| (all / 4..all / 2).contains(&count)),
+            "{admits:?}"
+        );
+    }
 }

@@ -1,7 +1,10 @@
-//! The rules in place, as they are read: a table in no order, each VCPU with a queue of its own.
+//! The rules in place, as they are read: a table in no order, each VCPU with a queue of its own. The
+//! queue of a deferrable or polling one is a single entry that stays: its next boundary and its
+//! capacity.
 
 use crate::call::{refuse, Change, Description, Refusal, Reply, Report, Scheduler};
 use crate::call::{LARGEST_IDENTIFIER, LARGEST_PERIOD, LARGEST_TIME, MOST_PENDING, MOST_VCPUS};
+use crate::call::{POLLING, SPORADIC};
 
 #[derive(Clone, Copy)]
 struct Vcpu {
@@ -9,6 +12,7 @@ struct Vcpu {
     period: u32,
     usable: u32,
     priority: u8,
+    kind: u8,
     runnable: bool,
     count: u8,
     ended: u64,
@@ -21,6 +25,7 @@ const FREE: Vcpu = Vcpu {
     period: 0,
     usable: 0,
     priority: 0,
+    kind: SPORADIC,
     runnable: false,
     count: 0,
     ended: 0,
@@ -39,6 +44,9 @@ impl Vcpu {
             return;
         }
         self.usable -= used;
+        if self.kind != SPORADIC {
+            return;
+        }
         let count = usize::from(self.count);
         let again = last + u64::from(self.period);
         if count > 0 && self.ended == last {
@@ -56,12 +64,58 @@ impl Vcpu {
 
     fn give_back(&mut self, now: u64) {
         while self.count > 0 && self.due[0] <= now {
+            if self.kind != SPORADIC {
+                return self.refill(now);
+            }
             self.usable += self.amount[0];
             self.due.copy_within(1.., 0);
             self.amount.copy_within(1.., 0);
             self.count -= 1;
         }
     }
+
+    fn refill(&mut self, now: u64) {
+        let period = u64::from(self.period);
+        self.due[0] += ((now - self.due[0]) / period + 1) * period;
+        self.usable = self.amount[0];
+        self.set_runnable(self.runnable);
+    }
+
+    /// A polling one that is not runnable keeps no ticks.
+    fn set_runnable(&mut self, runnable: bool) {
+        self.runnable = runnable;
+        if self.kind == POLLING && !runnable {
+            self.usable = 0;
+        }
+    }
+
+    /// Up to where it may run.
+    fn until(&self, now: u64) -> u64 {
+        let used_up = now + u64::from(self.usable);
+        if self.kind == SPORADIC {
+            used_up
+        } else {
+            used_up.min(self.due[0])
+        }
+    }
+}
+
+fn admitted(new: Description, now: u64) -> Vcpu {
+    let mut vcpu = Vcpu {
+        id: new.id,
+        period: new.period,
+        usable: new.capacity,
+        priority: new.priority,
+        kind: new.kind,
+        ..FREE
+    };
+    vcpu.set_runnable(false);
+    if new.kind != SPORADIC {
+        vcpu.due[0] = now + u64::from(new.period);
+        vcpu.amount[0] = new.capacity;
+        vcpu.count = 1;
+    }
+    vcpu
 }
 
 pub struct Core {
@@ -91,7 +145,7 @@ impl Core {
         self.vcpus().iter().position(|vcpu| vcpu.id == id)
     }
 
-    /// Rows 1 to 8 of the reply numbers; the place in the table that the call speaks of.
+    /// Rows 1 to 8 of the reply numbers, with 10 behind 5; the place in the table that the call speaks of.
     fn judge(&self, now: u64, change: &Change) -> Result<usize, Refusal> {
         if now > LARGEST_TIME {
             return refuse(1);
@@ -123,6 +177,9 @@ impl Core {
         if !periods.contains(&new.period) || !(1..=new.period).contains(&new.capacity) {
             return refuse(5);
         }
+        if new.kind > POLLING {
+            return refuse(10);
+        }
         if self.find(new.id).is_some() {
             return refuse(6);
         }
@@ -132,23 +189,17 @@ impl Core {
         Ok(self.count)
     }
 
-    fn change(&mut self, change: Change, place: usize) {
+    fn change(&mut self, change: Change, place: usize, now: u64) {
         match change {
             Change::Tick => (),
-            Change::Wake(_) => self.table[place].runnable = true,
-            Change::Block(_) => self.table[place].runnable = false,
+            Change::Wake(_) => self.table[place].set_runnable(true),
+            Change::Block(_) => self.table[place].set_runnable(false),
             Change::Remove(_) => {
                 self.count -= 1;
                 self.table[place] = self.table[self.count];
             }
             Change::Admit(new) => {
-                self.table[place] = Vcpu {
-                    id: new.id,
-                    period: new.period,
-                    usable: new.capacity,
-                    priority: new.priority,
-                    ..FREE
-                };
+                self.table[place] = admitted(new, now);
                 self.count += 1;
             }
         }
@@ -170,7 +221,7 @@ impl Core {
 
     /// The timer where `chosen` runs, or nobody.
     fn timer(&self, now: u64, chosen: Option<&Vcpu>) -> Option<u64> {
-        let mut timer = chosen.map(|vcpu| now + u64::from(vcpu.usable));
+        let mut timer = chosen.map(|vcpu| vcpu.until(now));
         for vcpu in self.vcpus() {
             if vcpu.runnable
                 && vcpu.count > 0
@@ -193,7 +244,7 @@ impl Scheduler for Core {
         for vcpu in &mut self.table[..self.count] {
             vcpu.give_back(now);
         }
-        self.change(change, place);
+        self.change(change, place, now);
         self.running = self.choose();
         let chosen = self.running.map(|place| &self.table[place]);
         let timer = self.timer(now, chosen);

@@ -7,7 +7,7 @@ const HEADER: usize = 3;
 /// The bytes of a whole record, by its tag.
 fn whole(tag: u8) -> Option<usize> {
     match tag {
-        1 => Some(HEADER + 20),
+        1 => Some(HEADER + 21),
         2..=4 => Some(HEADER + 11),
         5 => Some(HEADER + 8),
         _ => None,
@@ -48,6 +48,7 @@ pub fn read(bytes: &[u8]) -> Result<(u64, Change, usize), Refusal> {
             period: number4(&payload[11..]),
             capacity: number4(&payload[15..]),
             priority: payload[19],
+            kind: payload[20],
         }),
         2 => Change::Wake(id_of(payload)),
         3 => Change::Block(id_of(payload)),
@@ -76,7 +77,7 @@ pub fn write(now: u64, change: Change, out: &mut Vec<u8>) {
     if let Change::Admit(new) = change {
         out.extend(new.period.to_be_bytes());
         out.extend(new.capacity.to_be_bytes());
-        out.push(new.priority);
+        out.extend([new.priority, new.kind]);
     }
 }
 
@@ -91,6 +92,7 @@ mod tests {
             period: 70_000,
             capacity: 300,
             priority: 200,
+            kind: 2,
         };
         let wake = Change::Wake(0xff_ffff);
         for change in [

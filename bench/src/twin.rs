@@ -1,14 +1,13 @@
 //! The algorithm of the crate `turns`, in place: a table sorted by urgency, identifiers beside it,
-//! a time above all for none.
+//! a time above all for none. The next boundary of one that has no queue stands at its front.
 
 use crate::call::{refuse, Change, Description, Refusal, Reply, Report, Scheduler};
 use crate::call::{LARGEST_IDENTIFIER, LARGEST_PERIOD, LARGEST_TIME, MOST_PENDING, MOST_VCPUS};
+use crate::call::{POLLING, SPORADIC};
 
 const NEVER: u64 = u64::MAX;
 const NOBODY: u32 = u32::MAX;
 
-// `capacity` is never read: it keeps the record at its size in `turns`.
-#[allow(dead_code)]
 #[derive(Clone, Copy)]
 struct Vcpu {
     due: [u64; MOST_PENDING],
@@ -20,6 +19,7 @@ struct Vcpu {
     priority: u8,
     runnable: bool,
     count: u8,
+    kind: u8,
 }
 
 const VACANT: Vcpu = Vcpu {
@@ -32,6 +32,7 @@ const VACANT: Vcpu = Vcpu {
     priority: 0,
     runnable: false,
     count: 0,
+    kind: SPORADIC,
 };
 
 impl Vcpu {
@@ -39,6 +40,9 @@ impl Vcpu {
         let used = (now - last) as u32;
         let c = usize::from(self.count);
         self.usable -= used;
+        if self.kind != SPORADIC {
+            return;
+        }
         if c > 0 && self.ended == last {
             self.amount[c - 1] += used;
         } else if c == MOST_PENDING {
@@ -53,6 +57,9 @@ impl Vcpu {
     }
 
     fn give_back(&mut self, now: u64) {
+        if self.kind != SPORADIC {
+            return self.refill(now);
+        }
         while self.due[0] <= now {
             self.usable += self.amount[0];
             self.due.copy_within(1.., 0);
@@ -62,6 +69,51 @@ impl Vcpu {
             self.count -= 1;
         }
     }
+
+    fn refill(&mut self, now: u64) {
+        let period = u64::from(self.period);
+        self.due[0] = now + (period - (now - self.due[0]) % period);
+        self.usable = self.left(self.runnable, self.capacity);
+    }
+
+    /// What is left of its ticks: a polling one that is not runnable has none.
+    fn left(&self, runnable: bool, ticks: u32) -> u32 {
+        if self.kind == POLLING && !runnable {
+            0
+        } else {
+            ticks
+        }
+    }
+
+    fn set_runnable(&mut self, runnable: bool) {
+        self.usable = self.left(runnable, self.usable);
+        self.runnable = runnable;
+    }
+
+    /// Its own next boundary; the one that runs is not asked for its returns.
+    fn own(&self) -> u64 {
+        if self.kind == SPORADIC {
+            NEVER
+        } else {
+            self.due[0]
+        }
+    }
+}
+
+fn admitted(new: Description, now: u64) -> Vcpu {
+    let mut v = Vcpu {
+        period: new.period,
+        capacity: new.capacity,
+        usable: new.capacity,
+        priority: new.priority,
+        kind: new.kind,
+        ..VACANT
+    };
+    v.set_runnable(false);
+    if new.kind != SPORADIC {
+        v.due[0] = now + u64::from(new.period);
+    }
+    v
 }
 
 pub struct Core {
@@ -128,6 +180,9 @@ impl Core {
         if !period_fits || new.capacity < 1 || new.capacity > new.period {
             return refuse(5);
         }
+        if new.kind > POLLING {
+            return refuse(10);
+        }
         if self.find(new.id) < MOST_VCPUS {
             return refuse(6);
         }
@@ -137,20 +192,14 @@ impl Core {
         Ok(0)
     }
 
-    fn admit(&mut self, new: Description) {
+    fn admit(&mut self, new: Description, now: u64) {
         let mine = (new.priority, new.id);
         let k = (0..self.n)
             .position(|k| mine < (self.places[k].priority, self.ids[k]))
             .unwrap_or(self.n);
         self.places.copy_within(k..MOST_VCPUS - 1, k + 1);
         self.ids.copy_within(k..MOST_VCPUS - 1, k + 1);
-        self.places[k] = Vcpu {
-            period: new.period,
-            capacity: new.capacity,
-            usable: new.capacity,
-            priority: new.priority,
-            ..VACANT
-        };
+        self.places[k] = admitted(new, now);
         self.ids[k] = new.id;
         self.n += 1;
     }
@@ -163,13 +212,14 @@ impl Core {
         self.n -= 1;
     }
 
-    /// The first in the table that can run, and the earliest return of those before it.
+    /// The first in the table that can run, and the earliest that comes to those before it or is its
+    /// own boundary.
     fn choose(&self) -> (usize, u64) {
         let mut soon = NEVER;
         for (j, v) in self.places[..self.n].iter().enumerate() {
             if v.runnable {
                 if v.usable > 0 {
-                    return (j, soon);
+                    return (j, soon.min(v.own()));
                 }
                 soon = soon.min(v.due[0]);
             }
@@ -204,13 +254,15 @@ impl Scheduler for Core {
             self.places[self.running].charge(self.last, now);
         }
         for v in &mut self.places[..self.n] {
-            v.give_back(now);
+            if v.due[0] <= now {
+                v.give_back(now);
+            }
         }
         match change {
             Change::Tick => (),
-            Change::Admit(new) => self.admit(new),
-            Change::Wake(_) => self.places[at].runnable = true,
-            Change::Block(_) => self.places[at].runnable = false,
+            Change::Admit(new) => self.admit(new, now),
+            Change::Wake(_) => self.places[at].set_runnable(true),
+            Change::Block(_) => self.places[at].set_runnable(false),
             Change::Remove(_) => self.remove(at),
         }
         Ok(self.report(now))

@@ -1,6 +1,7 @@
 //! Which cases a call meets, told from the card before and after it.
 
 use crate::endings;
+use crate::kind_cases;
 use crate::reached::Reached;
 use crate::refusal::Refusal;
 use crate::turns::{Call, Change, Charged, Core, Description, Reply, Vcpu};
@@ -14,6 +15,7 @@ pub struct Notes {
     pub removed: Option<u32>,
     at_one_moment: u32,
     folded: BTreeSet<u32>,
+    kinds: kind_cases::Notes,
 }
 
 /// What a case needs to know of the card before the call.
@@ -25,6 +27,7 @@ pub struct Before {
     on_card: bool,
     was_runnable: bool,
     returns: Vec<(bool, usize)>,
+    kinds: kind_cases::Before,
 }
 
 fn identifier(change: &Change) -> Option<u32> {
@@ -47,11 +50,12 @@ fn word(change: &Change) -> &'static str {
     }
 }
 
-pub fn before(core: &Core, call: &Call) -> Before {
-    let vcpu = identifier(&call.change).and_then(|identifier| core.vcpus.get(&identifier));
+pub fn before(core: &Core, call: &Call, notes: &Notes) -> Before {
+    let named = identifier(&call.change);
+    let vcpu = named.and_then(|identifier| core.vcpus.get(&identifier));
     let returning = |vcpu: &Vcpu| {
         let all = vcpu.pending_count(core.last);
-        (vcpu.runnable, all - vcpu.pending_count(call.time.max(core.last)))
+        (vcpu.runnable(), all - vcpu.pending_count(call.time.max(core.last)))
     };
     Before {
         last: core.last,
@@ -59,8 +63,9 @@ pub fn before(core: &Core, call: &Call) -> Before {
         running: core.chosen().map(Vcpu::without_history),
         count: core.vcpus.len(),
         on_card: vcpu.is_some(),
-        was_runnable: vcpu.is_some_and(|vcpu| vcpu.runnable),
+        was_runnable: vcpu.is_some_and(|vcpu| vcpu.runnable()),
         returns: core.vcpus.values().map(returning).collect(),
+        kinds: kind_cases::before(core, call, named, &notes.kinds),
     }
 }
 
@@ -83,6 +88,8 @@ pub fn note(
             note_change(before, call, core, reached);
             note_choice(before, core, reached);
             note_timer(reply, core, reached);
+            let held = before.running.as_ref().map(|vcpu| vcpu.description.identifier);
+            kind_cases::note(&before.kinds, call, core, held, &mut notes.kinds, reached);
         }
     }
 }
@@ -91,11 +98,11 @@ fn note_refusal(before: &Before, call: &Call, refusal: &Refusal, core: &Core, re
     let number = refusal.number;
     reached.add(format!("{} no {number}", word(&call.change)));
     let late = before.timer.is_some_and(|timer| call.time > timer);
-    let bad_admit = match call.change {
-        Change::Admit(Description { period, capacity, .. }) => {
-            period < 1 || period > LARGEST_PERIOD || capacity < 1 || capacity > period
+    let (bad_admit, kind) = match call.change {
+        Change::Admit(Description { period, capacity, kind, .. }) => {
+            (period < 1 || period > LARGEST_PERIOD || capacity < 1 || capacity > period, kind)
         }
-        _ => false,
+        _ => (false, 0),
     };
     let admit = word(&call.change) == "admit";
     let unknown = !admit && word(&call.change) != "tick" && !before.on_card;
@@ -111,12 +118,26 @@ fn note_refusal(before: &Before, call: &Call, refusal: &Refusal, core: &Core, re
     reached.add_if(number == 5 && before.on_card, "5 before 6");
     reached.add_if(number == 5 && full, "5 before 8");
     reached.add_if(number == 6 && full, "6 before 8");
+    if kind > 2 {
+        note_unknown_kind(number, kind, before.on_card, full, reached);
+    }
     if let (5, Change::Admit(description)) = (number, call.change) {
         note_range(&description, reached);
     }
     if let (7, Some(identifier)) = (number, identifier(&call.change)) {
         reached.add_if(has_same_low_bits(core, identifier), "7 though the low 16 bits are on the card");
     }
+}
+
+/// A refused admit whose kind is unknown: what stands beside 10, on either side of it.
+fn note_unknown_kind(number: u32, kind: u8, on_card: bool, full: bool, reached: &mut Reached) {
+    if [2, 3, 5].contains(&number) {
+        reached.add(format!("{number} before 10"));
+    }
+    reached.add_if(number == 10 && on_card, "10 before 6");
+    reached.add_if(number == 10 && full, "10 before 8");
+    reached.add_if(number == 10 && kind == 3, "10: kind 3");
+    reached.add_if(number == 10 && kind == 255, "10: kind 255");
 }
 
 fn note_range(description: &Description, reached: &mut Reached) {
@@ -165,13 +186,14 @@ fn note_charge(before: &Before, call: &Call, core: &Core, notes: &mut Notes, rea
         Charged::Entry => "a new entry",
         Charged::Join => "a join",
         Charged::Fold => "a fold",
+        Charged::Taken => "ticks taken where there is no queue",
     };
     reached.add(case);
     let Some(held) = &before.running else { return };
     let Description { identifier, period, capacity, .. } = held.description;
     let entry = core.charged == Charged::Entry;
     let whole = capacity == period;
-    reached.add_if(entry && whole && held.use_ended == Some(before.last), "a slice cut where C is T");
+    reached.add_if(entry && whole && held.use_ended() == Some(before.last), "a slice cut where C is T");
     reached.add_if(entry && call.time - before.last == u64::from(period), "a whole period in one charge");
     reached
         .add_if(call.change == Change::Remove(identifier) && call.time > before.last, "removed while it ran");
@@ -208,7 +230,7 @@ fn note_change(before: &Before, call: &Call, core: &Core, reached: &mut Reached)
 }
 
 fn note_description(description: &Description, core: &Core, reached: &mut Reached) {
-    let Description { identifier, period, capacity, priority } = *description;
+    let Description { identifier, period, capacity, priority, .. } = *description;
     reached.add_if(has_same_low_bits(core, identifier), "identifiers equal in their low 16 bits");
     reached.add_if(identifier == 0, "identifier 0");
     reached.add_if(identifier == LARGEST_IDENTIFIER, "identifier 16777215");
@@ -221,21 +243,21 @@ fn note_description(description: &Description, core: &Core, reached: &mut Reache
 }
 
 fn note_choice(before: &Before, core: &Core, reached: &mut Reached) {
-    let able = |vcpu: &&Vcpu| vcpu.runnable && vcpu.usable(core.last) > 0;
+    let able = |vcpu: &&Vcpu| vcpu.runnable() && vcpu.usable(core.last) > 0;
     if let Some(held) = &before.running {
         let now = core.vcpus.get(&held.description.identifier);
         let still = now.filter(able).is_some();
         let chosen = core.chosen();
         let preempted = still && chosen.is_some_and(|vcpu| vcpu.more_urgent_than(held));
         reached.add_if(preempted, "preemption");
-        let used_up = now.is_some_and(|vcpu| vcpu.runnable && vcpu.usable(core.last) == 0);
+        let used_up = now.is_some_and(|vcpu| vcpu.runnable() && vcpu.usable(core.last) == 0);
         reached.add_if(used_up, "the running one is used up");
     }
     let Some(chosen) = core.chosen() else { return };
     let same = |vcpu: &Vcpu| vcpu.description.priority == chosen.description.priority;
     let ties = core.vcpus.values().filter(able).filter(|vcpu| same(vcpu)).count() > 1;
     reached.add_if(ties, "equal priority");
-    let passed = core.vcpus.values().any(|vcpu| vcpu.runnable && vcpu.more_urgent_than(chosen));
+    let passed = core.vcpus.values().any(|vcpu| vcpu.runnable() && vcpu.more_urgent_than(chosen));
     reached.add_if(passed, "a more urgent one without ticks");
 }
 
@@ -252,25 +274,30 @@ fn note_timer(reply: &Reply, core: &Core, reached: &mut Reached) {
         return;
     };
     reached.add_if(timer > LARGEST_TIME, "a timer above the largest time");
-    if reply.run.is_none() {
+    let Some(chosen) = core.chosen() else {
         reached.add("a timer in idle");
         return;
-    }
+    };
     let used_up = reply.time + reply.usable;
     reached.add_if(timer == used_up, "a timer from the usable ticks");
-    reached.add_if(timer < used_up, "a timer from a more urgent return");
-    reached.add_if(core.return_awaited() == Some(used_up), "both timers equal");
+    let returns = |vcpu: &Vcpu| {
+        vcpu.runnable() && vcpu.more_urgent_than(chosen) && vcpu.earliest_return(core.last) == Some(timer)
+    };
+    let from_return = timer < used_up && core.vcpus.values().any(returns);
+    reached.add_if(from_return, "a timer from a more urgent return");
+    reached.add_if(core.awaited() == Some(used_up), "both timers equal");
 }
 
 /// All the cases that a comparison must meet.
 pub fn asked() -> Vec<String> {
     let mut all: Vec<String> = PLAIN.iter().map(|case| case.to_string()).collect();
     all.extend(endings::all_cases());
+    all.extend(kind_cases::asked());
     for word in ["admit", "wake", "block", "remove", "tick"] {
         all.push(format!("{word} ok"));
         all.extend([1, 2, 3].map(|row| format!("{word} no {row}")));
     }
-    all.extend([5, 6, 8].map(|row| format!("admit no {row}")));
+    all.extend([5, 6, 8, 10].map(|row| format!("admit no {row}")));
     all.extend(["wake", "block", "remove"].map(|word| format!("{word} no 7")));
     for tag in 1..=5 {
         all.push(format!("time of tag {tag} damaged"));
@@ -278,11 +305,11 @@ pub fn asked() -> Vec<String> {
     for tag in 1..=4 {
         all.push(format!("identifier of tag {tag} damaged"));
     }
-    all.extend(["period", "capacity", "priority"].map(|field| format!("{field} of tag 1 damaged")));
+    all.extend(["period", "capacity", "priority", "kind"].map(|field| format!("{field} of tag 1 damaged")));
     all
 }
 
-const PLAIN: [&str; 65] = [
+const PLAIN: [&str; 73] = [
     "1 before 3",
     "1 before 7",
     "1 by one tick",
@@ -294,6 +321,13 @@ const PLAIN: [&str; 65] = [
     "5 before 6",
     "5 before 8",
     "6 before 8",
+    "2 before 10",
+    "3 before 10",
+    "5 before 10",
+    "10 before 6",
+    "10 before 8",
+    "10: kind 3",
+    "10: kind 255",
     "5: both 0",
     "5: period 0",
     "5: period 1000001",
@@ -315,6 +349,7 @@ const PLAIN: [&str; 65] = [
     "a new entry",
     "a join",
     "a fold",
+    "ticks taken where there is no queue",
     "a slice cut where C is T",
     "a whole period in one charge",
     "removed while it ran",

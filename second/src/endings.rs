@@ -15,7 +15,7 @@ const UNKNOWN: [u8; 6] = [0, 6, 7, 8, 128, 255];
 /// A whole record of each tag, at a time that would be accepted.
 fn whole(tag: u8, time: u64, identifier: u32) -> Vec<u8> {
     let change = match tag {
-        1 => Change::Admit(Description { identifier, period: 10, capacity: 3, priority: 1 }),
+        1 => Change::Admit(Description { identifier, period: 10, capacity: 3, priority: 1, kind: 1 }),
         2 => Change::Wake(identifier),
         3 => Change::Block(identifier),
         4 => Change::Remove(identifier),

@@ -7,7 +7,8 @@ use crate::lines::{self, Card};
 use crate::random::Random;
 use crate::reached::Reached;
 use crate::records;
-use crate::turns::{Call, Change, Core, Description, LARGEST_IDENTIFIER, LARGEST_PERIOD, LARGEST_TIME};
+use crate::turns::{Call, Change, Core, Description, Vcpu};
+use crate::turns::{LARGEST_IDENTIFIER, LARGEST_PERIOD, LARGEST_TIME};
 
 /// One input for the card and the lines that it should give. Only the last record can be
 /// cut short or damaged in its header; what stands behind it is not to be looked at.
@@ -67,9 +68,22 @@ const MOODS: [Mood; 10] = [
     Mood { most: 3, periods: (90, 900), capacities: Capacities::Many, blinks: true, ..CALM },
 ];
 
+/// Which kinds a run admits. A run of sporadic ones alone is, but for the byte of its kind,
+/// the run of document 01: nothing more is drawn for it.
+#[derive(Clone, Copy, PartialEq)]
+enum Kinds {
+    Sporadic,
+    All,
+    Refilled,
+}
+
+/// Gone through by tens of places, so that each meets every mood.
+const KINDS: [Kinds; 4] = [Kinds::All, Kinds::Sporadic, Kinds::All, Kinds::Refilled];
+
 pub struct Generator<'a> {
     random: Random,
     mood: Mood,
+    kinds: Kinds,
     pool: Vec<u32>,
     core: Core,
     notes: Notes,
@@ -79,13 +93,18 @@ pub struct Generator<'a> {
 
 /// The run of a seed and a place, of about so many records.
 pub fn run(seed: u64, place: u64, length: u64, reached: &mut Reached) -> Run {
+    let tens = place / MOODS.len() as u64;
+    run_of(KINDS[(tens % KINDS.len() as u64) as usize], seed, place, length, reached)
+}
+
+fn run_of(kinds: Kinds, seed: u64, place: u64, length: u64, reached: &mut Reached) -> Run {
     let mut random = Random::new(seed.wrapping_mul(1_000_003).wrapping_add(place));
     let mood = MOODS[(place % MOODS.len() as u64) as usize];
     let pool = identifiers(&mut random);
     let core = Core::new();
     let run = Run::default();
     let notes = Notes::default();
-    let mut generator = Generator { random, mood, pool, core, notes, run, reached };
+    let mut generator = Generator { random, mood, kinds, pool, core, notes, run, reached };
     generator.fill(length);
     generator.finish(place);
     generator.run
@@ -104,6 +123,7 @@ fn identifiers(random: &mut Random) -> Vec<u32> {
 impl Generator<'_> {
     fn fill(&mut self, length: u64) {
         if self.mood.late {
+            self.admit_for_the_leap();
             let time = LARGEST_TIME - self.random.between(0, 3 * length);
             self.put(records::write(&Call { time, change: Change::Tick }));
         }
@@ -124,10 +144,22 @@ impl Generator<'_> {
         }
     }
 
+    /// Nobody is runnable yet, so the leap passes all boundaries there are in one call.
+    fn admit_for_the_leap(&mut self) {
+        if self.kinds == Kinds::Sporadic {
+            return;
+        }
+        for kind in [1, 2] {
+            let identifier = self.any();
+            let description = Description { identifier, period: 1, capacity: 1, priority: kind, kind };
+            self.put(records::write(&Call { time: 0, change: Change::Admit(description) }));
+        }
+    }
+
     /// Follows a whole record and keeps its line.
     fn put(&mut self, record: Vec<u8>) {
         let (call, _) = records::read(&record).expect("a whole record");
-        let before = card_cases::before(&self.core, &call);
+        let before = card_cases::before(&self.core, &call, &self.notes);
         let answer = self.core.call(&call);
         card_cases::note(&before, &call, &answer, &self.core, &mut self.notes, self.reached);
         self.run.lines.push(lines::line(&answer));
@@ -155,20 +187,51 @@ impl Generator<'_> {
 
     /// One byte of the payload becomes another.
     fn damage(&mut self, record: &mut [u8]) {
-        let place = records::HEADER + self.random.index(record.len() - records::HEADER);
+        let kind = record.len() - 1;
+        let place = match (record[0], self.kinds) {
+            (1, Kinds::Sporadic) => records::HEADER + self.random.index(kind - records::HEADER),
+            (1, _) if self.random.once_in(4) => kind,
+            _ => records::HEADER + self.random.index(record.len() - records::HEADER),
+        };
         record[place] ^= self.random.between(1, 255) as u8;
         let field = match place {
             3..=10 => "time",
             11..=13 => "identifier",
             14..=17 => "period",
             18..=21 => "capacity",
-            _ => "priority",
+            22 => "priority",
+            _ => "kind",
         };
         self.reached.add(format!("{field} of tag {} damaged", record[0]));
     }
 
     fn call(&mut self) -> Call {
+        if self.kinds != Kinds::Sporadic && self.random.once_in(4) {
+            if let Some(call) = self.at_boundary() {
+                return call;
+            }
+        }
         Call { time: self.time(), change: self.change() }
+    }
+
+    /// A call at the next boundary of one on the card, mostly one that speaks of it.
+    fn at_boundary(&mut self) -> Option<Call> {
+        let latest = self.core.timer.unwrap_or(LARGEST_TIME).min(LARGEST_TIME);
+        let next = |vcpu: &Vcpu| Some((vcpu.next_boundary(self.core.last)?, vcpu.description.identifier));
+        let all = self.core.vcpus.values().filter_map(next);
+        let in_time: Vec<(u64, u32)> = all.filter(|&(boundary, _)| boundary <= latest).collect();
+        if in_time.is_empty() {
+            return None;
+        }
+        let (time, identifier) = *self.random.pick(&in_time);
+        let change = match self.random.below(12) {
+            0..=3 => Change::Wake(identifier),
+            4..=7 => Change::Block(identifier),
+            8 => Change::Remove(identifier),
+            9 => self.admit(),
+            _ => Change::Tick,
+        };
+        Some(Call { time, change })
     }
 
     fn time(&mut self) -> u64 {
@@ -199,6 +262,9 @@ impl Generator<'_> {
     }
 
     fn change(&mut self) -> Change {
+        if self.kinds != Kinds::Sporadic && self.random.once_in(80) {
+            return self.admit_unknown_kind();
+        }
         let count = self.core.vcpus.len();
         let filling = count < self.mood.most && self.random.below(10) < 3;
         if filling || count == 0 && !self.random.once_in(10) {
@@ -235,7 +301,7 @@ impl Generator<'_> {
 
     /// An identifier on the card, if one can be had with this readiness to run.
     fn on_card(&mut self, runnable: bool) -> u32 {
-        let vcpus = self.core.vcpus.values().filter(|vcpu| vcpu.runnable == runnable);
+        let vcpus = self.core.vcpus.values().filter(|vcpu| vcpu.runnable() == runnable);
         let fitting: Vec<u32> = vcpus.map(|vcpu| vcpu.description.identifier).collect();
         if fitting.is_empty() || self.random.once_in(30) {
             return self.any();
@@ -258,6 +324,20 @@ impl Generator<'_> {
         Change::Admit(description)
     }
 
+    /// Beside it often what another row refuses.
+    fn admit_unknown_kind(&mut self) -> Change {
+        let mut description = self.description();
+        let other = self.random.between(3, 255) as u8;
+        description.kind = *self.random.pick(&[3, 255, other]);
+        if self.random.once_in(3) {
+            description.identifier = self.on_card(true);
+        }
+        if self.random.once_in(4) {
+            self.spoil(&mut description);
+        }
+        Change::Admit(description)
+    }
+
     fn description(&mut self) -> Description {
         let (low, high) = self.mood.periods;
         let period = match self.random.below(40) {
@@ -275,7 +355,12 @@ impl Generator<'_> {
             Some(identifier) if self.random.once_in(3) => identifier,
             _ => self.any(),
         };
-        Description { identifier, period, capacity: self.capacity(period), priority }
+        let kind = match self.kinds {
+            Kinds::Sporadic => 0,
+            Kinds::All => self.random.below(3) as u8,
+            Kinds::Refilled => self.random.between(1, 2) as u8,
+        };
+        Description { identifier, period, capacity: self.capacity(period), priority, kind }
     }
 
     fn capacity(&mut self, period: u32) -> u32 {
@@ -301,5 +386,47 @@ impl Generator<'_> {
             4 => description.capacity = period + 1,
             _ => (description.period, description.capacity) = (0, 0),
         }
+    }
+}
+
+#[cfg(test)]
+mod tests {
+    use super::*;
+
+    /// FNV-1a.
+    fn join(sum: &mut u64, bytes: &[u8]) {
+        for &byte in bytes {
+            *sum = (*sum ^ u64::from(byte)).wrapping_mul(0x0100_0000_01b3);
+        }
+    }
+
+    /// A record as document 01 has it: an admit without its kind, and with its length.
+    fn without_kind(record: &[u8]) -> Vec<u8> {
+        match record {
+            [1, 0, 21, payload @ .., 0] => [&[1, 0, 20], payload].concat(),
+            [1, ..] => panic!("an admit of a kind: {record:?}"),
+            _ => record.to_vec(),
+        }
+    }
+
+    /// Every run of document 01 gives with the kind 0 the lines that it gave before. The sum
+    /// is that of the second program before request 1 (commit 024849a), over the whole
+    /// records and the lines of `run(1, place, 400, ..)` for these places: this test there,
+    /// with its own `run` and records as they are.
+    #[test]
+    fn runs_of_document_01_give_the_lines_they_gave() {
+        let (mut sum, mut count) = (0xcbf2_9ce4_8422_2325, 0);
+        for place in 0..1000 {
+            let run = run_of(Kinds::Sporadic, 1, place, 400, &mut Reached::default());
+            // The ending alone is no whole record.
+            let whole =
+                run.records.iter().zip(&run.lines).filter(|(record, _)| records::read(record).is_ok());
+            for (record, line) in whole {
+                join(&mut sum, &without_kind(record));
+                join(&mut sum, line.as_bytes());
+                count += 1;
+            }
+        }
+        assert_eq!((sum, count), (0xf03b_46e7_ffe3_63b0, 385_693));
     }
 }

@@ -160,20 +160,21 @@ mod tests {
     #[test]
     fn row_4_on_the_library() {
         const LARGEST: u32 = 16_777_215;
-        let admit = |identifier, capacity| {
-            Change::Admit(Description { identifier, period: 10, capacity, priority: 1 })
+        let admit = |identifier, capacity, kind| {
+            Change::Admit(Description { identifier, period: 10, capacity, priority: 1, kind })
         };
         let calls = [
-            (0, admit(LARGEST, 3)),
+            (0, admit(LARGEST, 3, 0)),
             (0, Change::Wake(LARGEST)),
-            (0, admit(LARGEST + 1, 3)),
+            (0, admit(LARGEST + 1, 3, 0)),
             (0, Change::Wake(33_554_431)),
             (0, Change::Block(33_554_431)),
             (0, Change::Remove(u32::MAX)),
             (0, Change::Tick),
             (1_000_000_000_001, Change::Wake(LARGEST + 1)),
             (4, Change::Wake(LARGEST + 1)),
-            (0, admit(LARGEST + 1, 0)),
+            (0, admit(LARGEST + 1, 0, 0)),
+            (0, admit(LARGEST + 1, 3, 3)),
             (2, Change::Tick),
             (1, Change::Remove(LARGEST + 1)),
             (3, Change::Tick),

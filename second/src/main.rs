@@ -7,6 +7,7 @@ mod compare_sizing;
 mod endings;
 mod ends;
 mod generate;
+mod kind_cases;
 mod lines;
 mod outside;
 mod picture;
@@ -15,8 +16,11 @@ mod query_cases;
 mod reached;
 mod records;
 mod sizing;
+mod stays;
 mod turns;
 mod words;
+#[cfg(test)]
+mod wrong_cards;
 
 use options::Options;
 use second::{options, pipe, random, refusal, shares};

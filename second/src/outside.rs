@@ -1,12 +1,15 @@
-//! `outside`: what a stay may hold, checked from the lines that the given program wrote
-//! and the records it was given, and from nothing else. Who runs from one time to the next
-//! stands in the lines; the periods and capacities stand in the admits.
+//! `outside`: what a stay may hold, that none waits with ticks and that no timer stands still,
+//! checked from the lines that the given program wrote and the records it was given, and from
+//! nothing else. Who runs from one time to the next stands in the lines; periods, capacities
+//! and kinds stand in the admits, and who is runnable follows from the wakes and blocks that
+//! were accepted.
 
 use crate::generate::{self, Run};
 use crate::pipe;
 use crate::reached::Reached;
 use crate::records;
-use crate::turns::{Change, Description, MOST_PENDING};
+use crate::stays::{Counts, OfKind, Stay};
+use crate::turns::Change;
 use std::collections::BTreeMap;
 
 pub struct Plan {
@@ -15,114 +18,12 @@ pub struct Plan {
     pub runs: u64,
 }
 
-/// An unbroken run of ticks, cut one period behind its start.
-#[derive(Clone, Copy, PartialEq, Eq, Debug)]
-struct Slice {
-    start: u64,
-    end: u64,
-}
-
-impl Slice {
-    fn within(&self, from: u64, to: u64) -> u64 {
-        self.end.min(to).saturating_sub(self.start.max(from))
-    }
-}
-
-#[derive(Default)]
-pub struct Counts {
-    stays: u64,
-    ticks: u64,
-    windows: u64,
-    usable: u64,
-    folds: u64,
-    cuts: u64,
-}
-
-pub struct Stay {
-    pub identifier: u32,
-    pub period: u64,
-    pub capacity: u64,
-    slices: Vec<Slice>,
-    folded: bool,
-}
-
-impl Stay {
-    pub fn new(description: &Description) -> Stay {
-        Stay {
-            identifier: description.identifier,
-            period: u64::from(description.period),
-            capacity: u64::from(description.capacity),
-            slices: Vec::new(),
-            folded: false,
-        }
-    }
-
-    fn pending(&self, moment: u64) -> impl Iterator<Item = &Slice> {
-        self.slices.iter().filter(move |slice| slice.start + self.period > moment)
-    }
-
-    /// The stay holds the core from `start` to `end`.
-    pub fn hold(&mut self, start: u64, end: u64, counts: &mut Counts) {
-        counts.ticks += end - start;
-        let mut from = start;
-        while from < end {
-            let to = self.room_of_last(from).min(end);
-            if to > from {
-                self.slices.last_mut().expect("it has room").end = to;
-                from = to;
-                continue;
-            }
-            counts.cuts += u64::from(self.slices.last().is_some_and(|slice| slice.end == from));
-            let folds = self.pending(from).count() >= MOST_PENDING;
-            counts.folds += u64::from(folds && !self.folded);
-            self.folded |= folds;
-            let to = end.min(from + self.period);
-            self.slices.push(Slice { start: from, end: to });
-            from = to;
-        }
-    }
-
-    /// Up to where the last slice may grow, if its use goes on at `from`.
-    fn room_of_last(&self, from: u64) -> u64 {
-        match self.slices.last() {
-            Some(slice) if slice.end == from => slice.start + self.period,
-            _ => from,
-        }
-    }
-
-    pub fn usable(&self, moment: u64) -> u64 {
-        let pending: u64 = self.pending(moment).map(|slice| slice.end - slice.start).sum();
-        self.capacity.saturating_sub(pending)
-    }
-
-    fn held(&self, from: u64) -> u64 {
-        self.slices.iter().map(|slice| slice.within(from, from + self.period)).sum()
-    }
-
-    /// The fullest window starts with a slice or ends with one.
-    fn check_windows(&self, counts: &mut Counts) -> Result<(), String> {
-        counts.stays += 1;
-        let starts = self.slices.iter().map(|slice| slice.start);
-        let ends = self.slices.iter().map(|slice| slice.end.saturating_sub(self.period));
-        for from in starts.chain(ends) {
-            counts.windows += 1;
-            let held = self.held(from);
-            if held > self.capacity {
-                return Err(format!(
-                    "{} holds {held} ticks in the {} from {from}, its capacity is {}",
-                    self.identifier, self.period, self.capacity
-                ));
-            }
-        }
-        Ok(())
-    }
-}
-
 /// An `ok` line.
 pub struct Told {
     pub time: u64,
     pub run: Option<u32>,
     pub usable: u64,
+    pub timer: Option<u64>,
 }
 
 /// None for a refusal.
@@ -131,10 +32,11 @@ pub fn read_line(line: &str) -> Result<Option<Told>, String> {
     let wrong = || format!("no line of the card: {line}");
     match words[..] {
         ["no", ..] => Ok(None),
-        ["ok", time, run, usable, _] => Ok(Some(Told {
+        ["ok", time, run, usable, timer] => Ok(Some(Told {
             time: time.parse().map_err(|_| wrong())?,
             run: if run == "-" { None } else { Some(run.parse().map_err(|_| wrong())?) },
             usable: usable.parse().map_err(|_| wrong())?,
+            timer: if timer == "-" { None } else { Some(timer.parse().map_err(|_| wrong())?) },
         })),
         _ => Err(wrong()),
     }
@@ -150,25 +52,62 @@ struct View<'a> {
 
 impl View<'_> {
     fn accept(&mut self, change: &Change, told: &Told) -> Result<(), String> {
+        if told.time < self.since {
+            return Err(format!("the time falls to {}", told.time));
+        }
         if let Some(stay) = self.on_core.and_then(|identifier| self.stays.get_mut(&identifier)) {
-            if told.time < self.since {
-                return Err(format!("the time falls to {}", told.time));
-            }
             stay.hold(self.since, told.time, self.counts);
         }
+        self.stays.values_mut().for_each(|stay| stay.pass(self.since, told.time));
+        self.change(change, told.time)?;
+        (self.on_core, self.since) = (told.run, told.time);
+        self.compare_usable(told)?;
+        self.check_choice(told)?;
+        self.check_timer(told)
+    }
+
+    fn change(&mut self, change: &Change, now: u64) -> Result<(), String> {
         match change {
             Change::Admit(description) => {
-                self.stays.insert(description.identifier, Stay::new(description));
+                self.stays.insert(description.identifier, Stay::new(description, now)?);
             }
             Change::Remove(identifier) => {
                 if let Some(stay) = self.stays.remove(identifier) {
-                    stay.check_windows(self.counts)?;
+                    stay.check(self.counts)?;
                 }
             }
-            _ => (),
+            Change::Wake(identifier) => self.leave(identifier, true),
+            Change::Block(identifier) => self.leave(identifier, false),
+            Change::Tick => (),
         }
-        (self.on_core, self.since) = (told.run, told.time);
-        self.compare_usable(told)
+        Ok(())
+    }
+
+    fn leave(&mut self, identifier: &u32, runnable: bool) {
+        if let Some(stay) = self.stays.get_mut(identifier) {
+            stay.leave(runnable);
+        }
+    }
+
+    /// A budget that is not told shows in this: with ticks it would run.
+    fn check_choice(&mut self, told: &Told) -> Result<(), String> {
+        let chosen = told.run.and_then(|identifier| self.stays.get(&identifier)).map(Stay::urgency);
+        let before = |stay: &&Stay| chosen.is_none_or(|urgency| stay.urgency() < urgency);
+        self.counts.choices += 1;
+        match self.stays.values().filter(before).find(|stay| stay.is_able(told.time)) {
+            Some(stay) => Err(format!("{} waits with usable ticks at {}", stay.identifier, told.time)),
+            None => Ok(()),
+        }
+    }
+
+    /// No call may be later than the timer, so one that is not ahead would let no time pass.
+    fn check_timer(&mut self, told: &Told) -> Result<(), String> {
+        let Some(timer) = told.timer else { return Ok(()) };
+        self.counts.timers += 1;
+        match timer > told.time {
+            true => Ok(()),
+            false => Err(format!("the timer {timer} is not later than its line at {}", told.time)),
+        }
     }
 
     fn compare_usable(&mut self, told: &Told) -> Result<(), String> {
@@ -179,7 +118,7 @@ impl View<'_> {
         if stay.folded {
             return Ok(());
         }
-        self.counts.usable += 1;
+        stay.of_kind(self.counts).usable += 1;
         let usable = stay.usable(told.time);
         if usable != told.usable {
             return Err(format!(
@@ -191,7 +130,7 @@ impl View<'_> {
     }
 }
 
-fn check_run(run: &Run, output: &str, counts: &mut Counts) -> Result<(), String> {
+pub fn check_run(run: &Run, output: &str, counts: &mut Counts) -> Result<(), String> {
     let lines: Vec<&str> = output.lines().collect();
     if lines.len() != run.records.len() {
         return Err(format!("{} lines for {} records", lines.len(), run.records.len()));
@@ -202,7 +141,7 @@ fn check_run(run: &Run, output: &str, counts: &mut Counts) -> Result<(), String>
         view.accept(&call.change, &told).map_err(|error| format!("record {}: {error}", place + 1))?;
     }
     let View { stays, counts, .. } = view;
-    stays.values().try_for_each(|stay| stay.check_windows(counts))
+    stays.values().try_for_each(|stay| stay.check(counts))
 }
 
 /// Short runs, from 40 to 120 records.
@@ -219,48 +158,56 @@ pub fn run(plan: &Plan) -> Result<String, String> {
         check_run(&run, &output, &mut counts)
             .map_err(|error| format!("seed {}, run {place}: {error}", plan.seed))?;
     }
-    let Counts { stays, ticks, windows, usable, folds, cuts } = counts;
-    println!("{stays} stays held {ticks} ticks; {folds} stays with a fold, {cuts} cut slices");
-    if [stays, ticks, windows, usable, folds, cuts].contains(&0) {
-        return Err("one of these was not met".to_string());
+    tell(&counts, plan.runs)
+}
+
+/// By the kind's byte.
+const NAMES: [&str; 3] = ["sporadic", "deferrable", "polling"];
+
+fn tell(counts: &Counts, runs: u64) -> Result<String, String> {
+    for (name, kind) in NAMES.iter().zip(&counts.kinds) {
+        let OfKind { stays, windows, above, rounds, usable } = kind;
+        println!(
+            "{name}: {stays} stays, {windows} windows, {above} with more than C, {rounds} rounds, \
+             {usable} usable ticks"
+        );
     }
-    Ok(format!("outside: {} runs, {windows} windows hold, {usable} usable ticks agree", plan.runs))
+    let Counts { choices, timers, ticks, folds, cuts, .. } = counts;
+    println!("{ticks} ticks held, {folds} stays with a fold, {cuts} cut slices");
+    println!("{choices} lines at which nobody waits with ticks, {timers} timers later than their line");
+    let missing = missing(counts);
+    if !missing.is_empty() {
+        return Err(format!("not met: {}", missing.join(", ")));
+    }
+    let all = |count: fn(&OfKind) -> u64| -> u64 { counts.kinds.iter().map(count).sum() };
+    let (windows, rounds) = (all(|kind| kind.windows), all(|kind| kind.rounds));
+    let usable = all(|kind| kind.usable);
+    Ok(format!(
+        "outside: {runs} runs, {windows} windows and {rounds} rounds hold, {usable} usable ticks agree"
+    ))
+}
+
+/// A count of nothing is a case not met. A sporadic one has no rounds and holds no more than
+/// C in a window; a polling one that runs late in a round may hold C again in the next.
+fn missing(counts: &Counts) -> Vec<String> {
+    let Counts { choices, timers, ticks, folds, cuts, .. } = *counts;
+    let plain =
+        [(choices, "choices"), (timers, "timers"), (ticks, "ticks"), (folds, "folds"), (cuts, "cuts")];
+    let mut asked = plain.map(|(count, what)| (count, what.to_string())).to_vec();
+    for (name, kind) in NAMES.iter().zip(&counts.kinds) {
+        let OfKind { stays, windows, above, rounds, usable } = *kind;
+        let mut of_kind = vec![(stays, "stays"), (windows, "windows"), (usable, "usable ticks")];
+        if *name != "sporadic" {
+            of_kind.extend([(above, "windows with more than C"), (rounds, "rounds")]);
+        }
+        asked.extend(of_kind.into_iter().map(|(count, what)| (count, format!("{name} {what}"))));
+    }
+    asked.into_iter().filter(|(count, _)| *count == 0).map(|(_, what)| what).collect()
 }
 
 #[cfg(test)]
 mod tests {
     use super::*;
-
-    fn stay(period: u32, capacity: u32) -> Stay {
-        Stay::new(&Description { identifier: 1, period, capacity, priority: 0 })
-    }
-
-    #[test]
-    fn slices_are_unbroken_and_cut() {
-        let mut counts = Counts::default();
-        let mut stay = stay(5, 5);
-        stay.hold(10, 12, &mut counts);
-        stay.hold(12, 17, &mut counts);
-        stay.hold(18, 19, &mut counts);
-        let slices = [(10, 15), (15, 17), (18, 19)].map(|(start, end)| Slice { start, end });
-        assert_eq!(stay.slices, slices);
-        assert_eq!((counts.cuts, counts.ticks), (1, 8));
-        assert_eq!(stay.usable(19), 2);
-        assert_eq!(stay.usable(20), 4);
-    }
-
-    #[test]
-    fn a_full_window_is_seen() {
-        let mut stay = stay(10, 4);
-        let mut counts = Counts::default();
-        stay.hold(0, 2, &mut counts);
-        stay.hold(7, 9, &mut counts);
-        assert!(stay.check_windows(&mut counts).is_ok());
-        stay.hold(10, 12, &mut counts);
-        assert!(stay.check_windows(&mut counts).is_ok());
-        stay.hold(16, 17, &mut counts);
-        assert!(stay.check_windows(&mut counts).is_err());
-    }
 
     #[test]
     fn the_own_lines_pass_and_spoilt_ones_do_not() {
@@ -274,7 +221,25 @@ mod tests {
             runs += usize::from(spoilt != run.lines);
         }
         assert!(runs > 100 && more == runs, "{more} of {runs}");
-        assert!(counts.folds > 0 && counts.cuts > 0);
+        assert_eq!(missing(&counts), [""; 0]);
+    }
+
+    fn all_met() -> Counts {
+        let kind = |_| OfKind { stays: 1, windows: 1, above: 1, rounds: 1, usable: 1 };
+        Counts { kinds: NAMES.map(kind), choices: 1, timers: 1, ticks: 1, folds: 1, cuts: 1 }
+    }
+
+    #[test]
+    fn a_run_that_reaches_less_fails() {
+        assert!(tell(&all_met(), 1).is_ok());
+        for (place, name) in NAMES.iter().enumerate() {
+            let mut counts = all_met();
+            counts.kinds[place] = OfKind::default();
+            let lost = missing(&counts);
+            assert!(lost.iter().all(|what| what.starts_with(name)), "{lost:?}");
+            assert_eq!(lost.len(), if *name == "sporadic" { 3 } else { 5 });
+            assert!(tell(&counts, 1).is_err());
+        }
     }
 
     /// One usable tick more than there is.

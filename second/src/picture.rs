@@ -2,9 +2,10 @@
 //! it. Above, who held the core; below, each tenant's usable budget, counted from those
 //! ticks as `outside` counts them, with a dot wherever the program told it.
 
-use crate::outside::{self, Stay, Told};
+use crate::outside::{self, Told};
 use crate::pipe;
 use crate::records;
+use crate::stays::{Counts, Stay};
 use crate::turns::{Call, Change};
 use crate::words;
 use std::fmt::Write;
@@ -29,8 +30,9 @@ impl Tenant {
     fn pass(&mut self, now: u64, holds: bool) {
         let spent = self.stay.usable(now) - u64::from(holds);
         if holds {
-            self.stay.hold(now, now + 1, &mut outside::Counts::default());
+            self.stay.hold(now, now + 1, &mut Counts::default());
         }
+        self.stay.pass(now, now + 1);
         self.budget.push((now + 1, spent));
         self.budget.push((now + 1, self.stay.usable(now + 1)));
         self.budget.dedup();
@@ -65,11 +67,7 @@ impl Seen {
 
     fn accept(&mut self, change: &Change, told: &Told) -> Result<(), String> {
         self.pass(told.time);
-        if let Change::Admit(description) = change {
-            let stay = Stay::new(description);
-            let budget = vec![(self.now, stay.capacity)];
-            self.tenants.push(Tenant { stay, budget, told: Vec::new() });
-        }
+        self.change(change)?;
         self.on_core = told.run;
         let Some(identifier) = told.run else { return Ok(()) };
         let now = self.now;
@@ -79,6 +77,31 @@ impl Seen {
         }
         tenant.told.push((now, told.usable));
         Ok(())
+    }
+
+    fn change(&mut self, change: &Change) -> Result<(), String> {
+        let now = self.now;
+        match change {
+            Change::Admit(description) => {
+                let stay = Stay::new(description, now)?;
+                let budget = vec![(now, stay.usable(now))];
+                self.tenants.push(Tenant { stay, budget, told: Vec::new() });
+            }
+            Change::Wake(identifier) => self.leave(*identifier, true),
+            Change::Block(identifier) => self.leave(*identifier, false),
+            _ => (),
+        }
+        Ok(())
+    }
+
+    /// A polling tenant that is left not runnable loses its ticks there.
+    fn leave(&mut self, identifier: u32, runnable: bool) {
+        let now = self.now;
+        if let Some(tenant) = self.tenant(identifier) {
+            tenant.stay.leave(runnable);
+            tenant.budget.push((now, tenant.stay.usable(now)));
+            tenant.budget.dedup();
+        }
     }
 }
 
@@ -164,12 +187,9 @@ impl Drawing {
         let colour = colour(seen, stay.identifier);
         let y = |usable: u64| base - usable * BUDGET / stay.capacity;
         self.text(LEFT - 10, base - BUDGET / 2, "end", &format!("{}", stay.identifier));
-        self.text(
-            LEFT - 10,
-            base - BUDGET / 2 + 16,
-            "end",
-            &format!("{} in any {}", stay.capacity, stay.period),
-        );
+        let often = if stay.is_sporadic() { "in any" } else { "each" };
+        let share = format!("{} {often} {}", stay.capacity, stay.period);
+        self.text(LEFT - 10, base - BUDGET / 2 + 16, "end", &share);
         let mut path = String::new();
         for &(moment, usable) in &tenant.budget {
             write!(path, "{},{} ", self.x(moment), y(usable)).expect("a string takes all");
@@ -241,6 +261,15 @@ mod tests {
         assert_eq!(budget, [3, 2, 1, 0, 0, 0, 0, 0, 0, 0, 0, 3]);
         assert_eq!(seen.tenants[0].told, [(0, 3), (10, 3)]);
         assert!(draw(&seen).ends_with("</svg>\n"));
+    }
+
+    #[test]
+    fn a_polling_tenant_is_drawn_with_its_refills_and_losses() {
+        let words = "admit 8 id 1 T 2 C 2 pr 1 kind 2\nwake 8 id 1\ntick 10\nblock 11 id 1\n";
+        let seen = seen(words, "ok 8 - 0 -\nok 8 - 0 10\nok 10 1 2 12\nok 11 - 0 -\n").unwrap();
+        let budget = [(8, 0), (9, 0), (10, 0), (10, 2), (11, 1), (11, 0)];
+        assert_eq!(seen.tenants[0].budget, budget);
+        assert!(draw(&seen).contains("2 each 2"));
     }
 
     #[test]

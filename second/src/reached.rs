@@ -1,15 +1,18 @@
 //! Counts which cases a comparison has met.
 
-use std::collections::BTreeMap;
+use std::collections::HashMap;
 
 #[derive(Default)]
 pub struct Reached {
-    counts: BTreeMap<String, u64>,
+    counts: HashMap<String, u64>,
 }
 
 impl Reached {
-    pub fn add(&mut self, case: impl Into<String>) {
-        *self.counts.entry(case.into()).or_insert(0) += 1;
+    pub fn add(&mut self, case: impl AsRef<str>) {
+        match self.counts.get_mut(case.as_ref()) {
+            Some(count) => *count += 1,
+            None => drop(self.counts.insert(case.as_ref().to_string(), 1)),
+        }
     }
 
     pub fn add_if(&mut self, met: bool, case: &str) {

@@ -8,7 +8,7 @@ pub const HEADER: usize = 3;
 /// The payload's length for a tag that is known.
 pub fn payload_length(tag: u8) -> Option<usize> {
     match tag {
-        1 => Some(20),
+        1 => Some(21),
         2..=4 => Some(11),
         5 => Some(8),
         _ => None,
@@ -32,6 +32,7 @@ fn call(tag: u8, payload: &[u8]) -> Call {
             period: number(&payload[11..15]) as u32,
             capacity: number(&payload[15..19]) as u32,
             priority: payload[19],
+            kind: payload[20],
         }),
         2 => Change::Wake(identifier),
         3 => Change::Block(identifier),
@@ -78,7 +79,7 @@ pub fn write(call: &Call) -> Vec<u8> {
             payload.extend(&description.identifier.to_be_bytes()[1..]);
             payload.extend(description.period.to_be_bytes());
             payload.extend(description.capacity.to_be_bytes());
-            payload.push(description.priority);
+            payload.extend([description.priority, description.kind]);
         }
     }
     let mut record = vec![tag(&call.change)];
@@ -106,15 +107,18 @@ mod tests {
         assert_eq!(refused(&[5, 0, 9]), 22);
         assert_eq!(refused(&[5, 1, 8]), 22);
         assert_eq!(refused(&[1, 0, 11]), 22);
+        assert_eq!(refused(&[1, 0, 20]), 22);
         assert_eq!(refused(&[5, 0, 8]), 20);
         assert_eq!(refused(&[5, 0, 8, 0, 0, 0, 0, 0, 0, 0]), 20);
     }
 
     #[test]
     fn what_is_written_reads_back() {
-        let description = Description { identifier: 0xfe_0102, period: 70_000, capacity: 300, priority: 200 };
+        let description =
+            Description { identifier: 0xfe_0102, period: 70_000, capacity: 300, priority: 200, kind: 0 };
         let changes = [
             Change::Admit(description),
+            Change::Admit(Description { kind: 255, ..description }),
             Change::Wake(0),
             Change::Block(0xff_ffff),
             Change::Remove(65793),
@@ -132,9 +136,9 @@ mod tests {
 
     #[test]
     fn an_admit_byte_for_byte() {
-        let description = Description { identifier: 65793, period: 10, capacity: 3, priority: 1 };
+        let description = Description { identifier: 65793, period: 10, capacity: 3, priority: 1, kind: 2 };
         let bytes = write(&Call { time: 258, change: Change::Admit(description) });
-        let whole = [1, 0, 20, 0, 0, 0, 0, 0, 0, 1, 2, 1, 1, 1, 0, 0, 0, 10, 0, 0, 0, 3, 1];
+        let whole = [1, 0, 21, 0, 0, 0, 0, 0, 0, 1, 2, 1, 1, 1, 0, 0, 0, 10, 0, 0, 0, 3, 1, 2];
         assert_eq!(bytes, whole);
     }
 }

@@ -1,6 +1,7 @@
-//! Turns: the section "What a call does", read plainly. A VCPU keeps every entry that it
-//! was ever charged; what is pending or usable at a moment is counted from them, so that
-//! the step "Return" is the passing of time and needs no code.
+//! Turns: the section "What a call does" of the scope paper with request 1, read plainly. A
+//! VCPU keeps what it used and since when it is runnable; what is pending or usable at a
+//! moment is counted from that, so that the step "Return", refills included, is the passing
+//! of time and needs no code.
 
 use crate::refusal::{refuse, Refusal};
 use std::collections::BTreeMap;
@@ -17,6 +18,8 @@ pub struct Description {
     pub period: u32,
     pub capacity: u32,
     pub priority: u8,
+    /// The byte that was asked for: 0 sporadic, 1 deferrable, 2 polling; others are refused.
+    pub kind: u8,
 }
 
 #[derive(Clone, Copy, PartialEq, Eq, Debug)]
@@ -50,6 +53,8 @@ pub enum Charged {
     Entry,
     Join,
     Fold,
+    /// Ticks of one that has no queue.
+    Taken,
 }
 
 /// Ticks that were used, and when they come back.
@@ -59,23 +64,102 @@ struct Entry {
     amount: u64,
 }
 
+/// What a kind keeps of its own.
+#[derive(Clone, Debug)]
+enum Kept {
+    /// Every entry that it was ever charged, and where its latest use ended.
+    Sporadic {
+        entries: Vec<Entry>,
+        use_ended: Option<u64>,
+    },
+    Deferrable(Round),
+    Polling(Round),
+}
+
+/// A round goes from the admission, or from a boundary, to the next boundary. Kept are the
+/// number of the latest one with any use, and the ticks used in it.
+#[derive(Clone, Copy, Debug)]
+struct Round {
+    admitted: u64,
+    period: u64,
+    number: u64,
+    used: u64,
+}
+
+impl Round {
+    fn first(admitted: u64, period: u32) -> Round {
+        Round { admitted, period: u64::from(period), number: 0, used: 0 }
+    }
+
+    /// How many boundaries have passed at a moment, those at it too.
+    fn number(&self, moment: u64) -> u64 {
+        (moment - self.admitted) / self.period
+    }
+
+    fn next_boundary(&self, moment: u64) -> u64 {
+        self.admitted + (self.number(moment) + 1) * self.period
+    }
+
+    fn used(&self, moment: u64) -> u64 {
+        if self.number(moment) == self.number {
+            self.used
+        } else {
+            0
+        }
+    }
+
+    /// No use goes on over a boundary: the timer is not later, so it is all of one round.
+    fn charge(&mut self, last: u64, now: u64) {
+        let used = self.used(last) + now - last;
+        (self.number, self.used) = (self.number(last), used);
+    }
+}
+
 #[derive(Clone, Debug)]
 pub struct Vcpu {
     pub description: Description,
-    pub runnable: bool,
-    pub use_ended: Option<u64>,
-    kept: Vec<Entry>,
+    /// The call from which on it has been runnable, if it is.
+    woken: Option<u64>,
+    kept: Kept,
 }
 
 impl Vcpu {
-    fn new(description: Description) -> Vcpu {
-        Vcpu { description, runnable: false, use_ended: None, kept: Vec::new() }
+    /// None for an unknown kind.
+    fn new(description: Description, now: u64) -> Option<Vcpu> {
+        let round = Round::first(now, description.period);
+        let kept = match description.kind {
+            0 => Kept::Sporadic { entries: Vec::new(), use_ended: None },
+            1 => Kept::Deferrable(round),
+            2 => Kept::Polling(round),
+            _ => return None,
+        };
+        Some(Vcpu { description, woken: None, kept })
+    }
+
+    pub fn runnable(&self) -> bool {
+        self.woken.is_some()
+    }
+
+    /// A wake of a runnable one changes nothing.
+    fn set_runnable(&mut self, runnable: bool, now: u64) {
+        self.woken = if runnable { self.woken.or(Some(now)) } else { None };
+    }
+
+    pub fn use_ended(&self) -> Option<u64> {
+        match self.kept {
+            Kept::Sporadic { use_ended, .. } => use_ended,
+            _ => None,
+        }
     }
 
     /// The entries not yet returned at a moment, the latest first. Later entries are due
     /// later, so the first one returned ends the search.
     fn pending(&self, moment: u64) -> impl Iterator<Item = &Entry> {
-        self.kept.iter().rev().take_while(move |entry| entry.due > moment)
+        let entries: &[Entry] = match &self.kept {
+            Kept::Sporadic { entries, .. } => entries,
+            _ => &[],
+        };
+        entries.iter().rev().take_while(move |entry| entry.due > moment)
     }
 
     pub fn pending_count(&self, moment: u64) -> usize {
@@ -83,17 +167,55 @@ impl Vcpu {
     }
 
     pub fn usable(&self, moment: u64) -> u64 {
-        let pending: u64 = self.pending(moment).map(|entry| entry.amount).sum();
-        u64::from(self.description.capacity) - pending
+        let capacity = u64::from(self.description.capacity);
+        match &self.kept {
+            Kept::Sporadic { .. } => capacity - self.pending(moment).map(|entry| entry.amount).sum::<u64>(),
+            Kept::Deferrable(round) => capacity - round.used(moment),
+            Kept::Polling(round) if self.polled(round, moment) => capacity - round.used(moment),
+            Kept::Polling(_) => 0,
+        }
+    }
+
+    /// Whether it was runnable just before the call that passed its latest boundary, and
+    /// ever since. The call that woke it had passed all boundaries up to its own time.
+    fn polled(&self, round: &Round, moment: u64) -> bool {
+        self.woken.is_some_and(|woken| round.number(woken) < round.number(moment))
+    }
+
+    /// Of the kinds that have one.
+    pub fn next_boundary(&self, moment: u64) -> Option<u64> {
+        self.round().map(|round| round.next_boundary(moment))
+    }
+
+    /// How many boundaries a call at `now` passes, where the last one was at `last`.
+    pub fn boundaries_passed(&self, last: u64, now: u64) -> u64 {
+        self.round().map_or(0, |round| round.number(now) - round.number(last))
+    }
+
+    fn round(&self) -> Option<&Round> {
+        match &self.kept {
+            Kept::Sporadic { .. } => None,
+            Kept::Deferrable(round) | Kept::Polling(round) => Some(round),
+        }
     }
 
     pub fn earliest_return(&self, moment: u64) -> Option<u64> {
         self.pending(moment).map(|entry| entry.due).min()
     }
 
+    /// When ticks may come to it next: its earliest return, or its next boundary.
+    fn comes_next(&self, moment: u64) -> Option<u64> {
+        self.next_boundary(moment).or_else(|| self.earliest_return(moment))
+    }
+
     /// The same VCPU, its entries left out.
     pub fn without_history(&self) -> Vcpu {
-        Vcpu { kept: Vec::new(), ..*self }
+        let kept = match self.kept {
+            Kept::Sporadic { use_ended, .. } => Kept::Sporadic { entries: Vec::new(), use_ended },
+            Kept::Deferrable(round) => Kept::Deferrable(round),
+            Kept::Polling(round) => Kept::Polling(round),
+        };
+        Vcpu { kept, ..*self }
     }
 
     /// Smaller is more urgent.
@@ -107,30 +229,39 @@ impl Vcpu {
 
     /// Step 1 for the VCPU that held the core from `last` to `now`.
     fn charge(&mut self, last: u64, now: u64) -> Charged {
-        let amount = now - last;
-        if amount == 0 {
+        if now == last {
             return Charged::Nothing;
         }
-        let due = last + u64::from(self.description.period);
         let pending = self.pending_count(last);
-        let charged = if self.use_ended == Some(last) && pending > 0 {
-            self.last_entry().amount += amount;
-            Charged::Join
-        } else if pending == MOST_PENDING {
-            let entry = self.last_entry();
-            entry.amount += amount;
-            entry.due = due;
-            Charged::Fold
-        } else {
-            self.kept.push(Entry { due, amount });
-            Charged::Entry
-        };
-        self.use_ended = Some(now);
-        charged
+        let due = last + u64::from(self.description.period);
+        match &mut self.kept {
+            Kept::Sporadic { entries, use_ended } => {
+                let goes_on = use_ended.replace(now) == Some(last) && pending > 0;
+                post(entries, Entry { due, amount: now - last }, goes_on, pending)
+            }
+            Kept::Deferrable(round) | Kept::Polling(round) => {
+                round.charge(last, now);
+                Charged::Taken
+            }
+        }
     }
+}
 
-    fn last_entry(&mut self) -> &mut Entry {
-        self.kept.last_mut().expect("something is pending")
+/// Posts a return; a use that goes on joins the last one, whose time stays.
+fn post(entries: &mut Vec<Entry>, new: Entry, goes_on: bool, pending: usize) -> Charged {
+    match entries.last_mut() {
+        Some(entry) if goes_on => {
+            entry.amount += new.amount;
+            Charged::Join
+        }
+        Some(entry) if pending == MOST_PENDING => {
+            *entry = Entry { due: new.due, amount: entry.amount + new.amount };
+            Charged::Fold
+        }
+        _ => {
+            entries.push(new);
+            Charged::Entry
+        }
     }
 }
 
@@ -174,7 +305,7 @@ impl Core {
         }
     }
 
-    /// Rows 4 to 8.
+    /// Rows 4 to 8, with 10 behind 5.
     fn validate_change(&self, change: &Change) -> Result<(), Refusal> {
         match change {
             Change::Tick => Ok(()),
@@ -199,6 +330,9 @@ impl Core {
         if period < 1 || period > LARGEST_PERIOD || capacity < 1 || capacity > period {
             return refuse(5);
         }
+        if Vcpu::new(*description, self.last).is_none() {
+            return refuse(10);
+        }
         if self.vcpus.contains_key(&identifier) {
             return refuse(6);
         }
@@ -219,7 +353,8 @@ impl Core {
     fn change(&mut self, change: &Change) {
         match *change {
             Change::Admit(description) => {
-                self.vcpus.insert(description.identifier, Vcpu::new(description));
+                let vcpu = Vcpu::new(description, self.last).expect("a known kind");
+                self.vcpus.insert(description.identifier, vcpu);
             }
             Change::Wake(identifier) => self.set_runnable(identifier, true),
             Change::Block(identifier) => self.set_runnable(identifier, false),
@@ -232,13 +367,13 @@ impl Core {
 
     fn set_runnable(&mut self, identifier: u32, runnable: bool) {
         if let Some(vcpu) = self.vcpus.get_mut(&identifier) {
-            vcpu.runnable = runnable;
+            vcpu.set_runnable(runnable, self.last);
         }
     }
 
     /// Step 4: the most urgent VCPU that is runnable and has usable ticks.
     fn choose(&self) -> Option<u32> {
-        let able = self.vcpus.values().filter(|vcpu| vcpu.runnable && vcpu.usable(self.last) > 0);
+        let able = self.vcpus.values().filter(|vcpu| vcpu.runnable() && vcpu.usable(self.last) > 0);
         able.min_by_key(|vcpu| vcpu.urgency()).map(|vcpu| vcpu.description.identifier)
     }
 
@@ -246,17 +381,19 @@ impl Core {
         self.running.map(|identifier| &self.vcpus[&identifier])
     }
 
-    /// The earliest pending return of a runnable VCPU more urgent than the chosen one; in
-    /// idle, of any runnable VCPU.
-    pub fn return_awaited(&self) -> Option<u64> {
+    /// The earliest pending return or next boundary of a runnable VCPU more urgent than the
+    /// chosen one; in idle, of any runnable VCPU.
+    pub fn awaited(&self) -> Option<u64> {
         let chosen = self.chosen();
-        let counts = |vcpu: &&Vcpu| vcpu.runnable && chosen.is_none_or(|other| vcpu.more_urgent_than(other));
-        self.vcpus.values().filter(counts).filter_map(|vcpu| vcpu.earliest_return(self.last)).min()
+        let counts =
+            |vcpu: &&Vcpu| vcpu.runnable() && chosen.is_none_or(|other| vcpu.more_urgent_than(other));
+        self.vcpus.values().filter(counts).filter_map(|vcpu| vcpu.comes_next(self.last)).min()
     }
 
     fn next_timer(&self) -> Option<u64> {
         let used_up = self.chosen().map(|vcpu| self.last + vcpu.usable(self.last));
-        [used_up, self.return_awaited()].into_iter().flatten().min()
+        let own_boundary = self.chosen().and_then(|vcpu| vcpu.next_boundary(self.last));
+        [used_up, own_boundary, self.awaited()].into_iter().flatten().min()
     }
 
     fn reply(&self) -> Reply {
@@ -270,8 +407,15 @@ mod tests {
     use super::*;
 
     fn admit(time: u64, identifier: u32, period: u32, capacity: u32, priority: u8) -> Call {
-        let description = Description { identifier, period, capacity, priority };
-        Call { time, change: Change::Admit(description) }
+        of_kind(0, admit_terms(identifier, period, capacity, priority), time)
+    }
+
+    fn admit_terms(identifier: u32, period: u32, capacity: u32, priority: u8) -> Description {
+        Description { identifier, period, capacity, priority, kind: 0 }
+    }
+
+    fn of_kind(kind: u8, description: Description, time: u64) -> Call {
+        Call { time, change: Change::Admit(Description { kind, ..description }) }
     }
 
     fn wake(time: u64, identifier: u32) -> Call {
@@ -298,6 +442,13 @@ mod tests {
         core
     }
 
+    fn entries(core: &Core, identifier: u32) -> &[Entry] {
+        match &core.vcpus[&identifier].kept {
+            Kept::Sporadic { entries, .. } => entries,
+            kept => panic!("{kept:?} has no entries"),
+        }
+    }
+
     fn ran(core: &mut Core, call: Call) -> (Option<u32>, u64, Option<u64>) {
         let reply = core.call(&call).unwrap();
         (reply.run, reply.usable, reply.timer)
@@ -314,7 +465,7 @@ mod tests {
         assert_eq!(core.charged, Charged::Entry);
         assert_eq!(ran(&mut core, tick(3)), (Some(1), 2, Some(5)));
         assert_eq!(core.charged, Charged::Join);
-        assert_eq!(core.vcpus[&1].kept, [Entry { due: 10, amount: 3 }]);
+        assert_eq!(entries(&core, 1), [Entry { due: 10, amount: 3 }]);
         assert_eq!(ran(&mut core, tick(5)), (None, 0, Some(10)));
         assert_eq!(ran(&mut core, tick(10)), (Some(1), 5, Some(15)));
     }
@@ -340,8 +491,8 @@ mod tests {
         }
         let vcpu = &core.vcpus[&7];
         assert_eq!(vcpu.pending_count(17), 8);
-        assert_eq!(vcpu.kept[7], Entry { due: 1016, amount: 2 });
-        assert_eq!(vcpu.kept[6], Entry { due: 1012, amount: 1 });
+        assert_eq!(entries(&core, 7)[7], Entry { due: 1016, amount: 2 });
+        assert_eq!(entries(&core, 7)[6], Entry { due: 1012, amount: 1 });
         assert_eq!(vcpu.usable(17), 91);
         assert_eq!(vcpu.usable(1014), 98);
         assert_eq!(vcpu.usable(1016), 100);
@@ -357,7 +508,7 @@ mod tests {
         core.call(&wake(15, 7)).unwrap();
         core.call(&tick(18)).unwrap();
         assert_eq!(core.charged, Charged::Join);
-        assert_eq!(core.vcpus[&7].kept[7], Entry { due: 1014, amount: 4 });
+        assert_eq!(entries(&core, 7)[7], Entry { due: 1014, amount: 4 });
     }
 
     #[test]
@@ -367,7 +518,7 @@ mod tests {
         assert_eq!(core.charged, Charged::Join);
         assert_eq!(ran(&mut core, tick(8)), (Some(1), 2, Some(10)));
         assert_eq!(core.charged, Charged::Entry);
-        assert_eq!(core.vcpus[&1].kept.last(), Some(&Entry { due: 10, amount: 3 }));
+        assert_eq!(entries(&core, 1).last(), Some(&Entry { due: 10, amount: 3 }));
         assert_eq!(ran(&mut core, tick(10)), (Some(1), 5, Some(15)));
         assert_eq!(ran(&mut core, tick(15)), (Some(1), 5, Some(20)));
         assert_eq!(core.charged, Charged::Entry);
@@ -432,5 +583,106 @@ mod tests {
     fn equal_priority_goes_to_the_smaller_identifier() {
         let core = core(&[admit(0, 65793, 10, 3, 1), admit(0, 257, 10, 3, 1), wake(0, 65793), wake(0, 257)]);
         assert_eq!(core.running, Some(257));
+    }
+
+    /// Admitted at 2 with T 10 and C 4: boundaries at 12, 22, 32.
+    fn with(kind: u8, more: &[Call]) -> Core {
+        let mut core = core(&[of_kind(kind, admit_terms(1, 10, 4, 5), 2)]);
+        for call in more {
+            core.call(call).unwrap_or_else(|refusal| panic!("{call:?}: {refusal:?}"));
+        }
+        core
+    }
+
+    #[test]
+    fn a_deferrable_one_is_refilled_to_its_capacity_at_its_boundaries() {
+        let mut core = with(1, &[wake(3, 1)]);
+        assert_eq!(ran(&mut core, block(4, 1)), (None, 0, None));
+        assert_eq!(core.charged, Charged::Taken);
+        assert_eq!(ran(&mut core, wake(10, 1)), (Some(1), 3, Some(12)));
+        assert_eq!(ran(&mut core, tick(12)), (Some(1), 4, Some(16)));
+        assert_eq!(ran(&mut core, tick(16)), (None, 0, Some(22)));
+        assert_eq!(number(&core, tick(23)), (3, 22));
+        assert_eq!(ran(&mut core, block(22, 1)), (None, 0, None));
+        assert_eq!(ran(&mut core, wake(51, 1)), (Some(1), 4, Some(52)));
+    }
+
+    #[test]
+    fn a_deferrable_one_can_hold_two_capacities_in_a_row() {
+        let mut core = with(1, &[]);
+        assert_eq!(ran(&mut core, wake(8, 1)), (Some(1), 4, Some(12)));
+        assert_eq!(ran(&mut core, tick(12)), (Some(1), 4, Some(16)));
+        assert_eq!(ran(&mut core, tick(16)), (None, 0, Some(22)));
+    }
+
+    #[test]
+    fn a_polling_one_that_wakes_late_waits_for_the_next_boundary() {
+        let mut core = with(2, &[]);
+        assert_eq!(ran(&mut core, wake(2, 1)), (None, 0, Some(12)));
+        assert_eq!(ran(&mut core, tick(12)), (Some(1), 4, Some(16)));
+        assert_eq!(ran(&mut core, block(13, 1)), (None, 0, None));
+        assert_eq!(ran(&mut core, wake(13, 1)), (None, 0, Some(22)));
+        assert_eq!(ran(&mut core, block(22, 1)), (None, 0, None));
+        assert_eq!(ran(&mut core, wake(32, 1)), (None, 0, Some(42)));
+        assert_eq!(ran(&mut core, wake(42, 1)), (Some(1), 4, Some(46)));
+    }
+
+    #[test]
+    fn a_refill_of_a_preempted_one_counts_and_its_boundary_is_not_looked_at() {
+        for kind in [1, 2] {
+            let mut core = with(kind, &[wake(3, 1), tick(7 + 5 * u64::from(kind == 2))]);
+            core.call(&admit(core.last, 9, 100, 50, 0)).unwrap();
+            let start = core.last;
+            assert_eq!(ran(&mut core, wake(start, 9)), (Some(9), 50, Some(start + 50)));
+            core.call(&tick(40)).unwrap();
+            assert_eq!(ran(&mut core, block(41, 9)), (Some(1), 4, Some(42)));
+        }
+    }
+
+    #[test]
+    fn the_running_one_is_woken_for_its_own_boundary_and_a_sporadic_one_is_not() {
+        let mut core = with(1, &[wake(10, 1)]);
+        assert_eq!(core.timer, Some(12));
+        core.call(&tick(12)).unwrap();
+        let mut sporadic = with(0, &[wake(3, 1), block(5, 1)]);
+        assert_eq!(ran(&mut sporadic, wake(12, 1)), (Some(1), 2, Some(14)));
+    }
+
+    #[test]
+    fn one_with_the_whole_period_keeps_the_core_over_its_boundaries() {
+        for kind in [1, 2] {
+            let mut core = core(&[of_kind(kind, admit_terms(1, 5, 5, 0), 0), wake(0, 1), tick(5)]);
+            assert_eq!(ran(&mut core, tick(7)), (Some(1), 3, Some(10)));
+            assert_eq!(ran(&mut core, tick(10)), (Some(1), 5, Some(15)));
+        }
+    }
+
+    #[test]
+    fn one_call_may_pass_very_many_boundaries() {
+        for kind in [1, 2] {
+            let mut core = core(&[of_kind(kind, admit_terms(1, 1, 1, 0), 0), tick(LARGEST_TIME - 1)]);
+            let woken = ran(&mut core, wake(LARGEST_TIME - 1, 1));
+            let own = Some(LARGEST_TIME);
+            assert_eq!(woken, if kind == 1 { (Some(1), 1, own) } else { (None, 0, own) });
+            assert_eq!(ran(&mut core, tick(LARGEST_TIME)), (Some(1), 1, Some(LARGEST_TIME + 1)));
+        }
+    }
+
+    /// 10 stands behind 4 and 5 and before 6 and 8.
+    #[test]
+    fn an_unknown_kind_has_its_place_among_the_rows() {
+        let mut core = core(&[admit(0, 1, 10, 3, 0)]);
+        for kind in [3, 128, 255] {
+            let row = |core: &Core, description| number(core, of_kind(kind, description, 0));
+            assert_eq!(row(&core, admit_terms(1 << 24, 10, 3, 0)), (4, 0));
+            assert_eq!(row(&core, admit_terms(1, 10, 0, 0)), (5, 0));
+            assert_eq!(row(&core, admit_terms(1, 10, 3, 0)), (10, 0));
+            assert_eq!(row(&core, admit_terms(2, 10, 3, 0)), (10, 0));
+        }
+        for identifier in 2..=32 {
+            core.call(&admit(0, identifier, 10, 1, 0)).unwrap();
+        }
+        assert_eq!(number(&core, of_kind(3, admit_terms(33, 10, 3, 0), 0)), (10, 0));
+        assert_eq!(number(&core, of_kind(2, admit_terms(33, 10, 3, 0), 0)), (8, 0));
     }
 }

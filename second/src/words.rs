@@ -1,4 +1,5 @@
-//! Records in words, as in the paper's left column, to bytes and back. What is no whole
+//! Records in words, as in the paper's left column, to bytes and back. An admit can end with
+//! `kind` and a byte; it is 0 where none is given, and 0 is not written. What is no whole
 //! record is written `bytes` with two hexadecimal digits for each.
 
 use crate::records;
@@ -33,6 +34,15 @@ fn named<'a>(words: &mut impl Iterator<Item = &'a str>, its: &str, most: u64) ->
     next_number(words, most)
 }
 
+/// The kind is the last word of an admit, so what stands there can be nothing else.
+fn kind<'a>(words: &mut impl Iterator<Item = &'a str>) -> Result<u8, String> {
+    match words.next() {
+        None => Ok(0),
+        Some("kind") => Ok(next_number(words, 255)? as u8),
+        Some(word) => Err(format!("'{word}' is too many")),
+    }
+}
+
 fn change<'a>(first: &str, words: &mut impl Iterator<Item = &'a str>) -> Result<Change, String> {
     if first == "tick" {
         return Ok(Change::Tick);
@@ -47,6 +57,7 @@ fn change<'a>(first: &str, words: &mut impl Iterator<Item = &'a str>) -> Result<
             period: named(words, "T", u64::from(u32::MAX))? as u32,
             capacity: named(words, "C", u64::from(u32::MAX))? as u32,
             priority: named(words, "pr", 255)? as u8,
+            kind: kind(words)?,
         }),
     })
 }
@@ -95,8 +106,9 @@ fn call_in_words(call: &Call) -> String {
         Change::Wake(identifier) => format!("wake {time} id {identifier}"),
         Change::Block(identifier) => format!("block {time} id {identifier}"),
         Change::Remove(identifier) => format!("remove {time} id {identifier}"),
-        Change::Admit(Description { identifier, period, capacity, priority }) => {
-            format!("admit {time} id {identifier} T {period} C {capacity} pr {priority}")
+        Change::Admit(Description { identifier, period, capacity, priority, kind }) => {
+            let kind = if kind == 0 { String::new() } else { format!(" kind {kind}") };
+            format!("admit {time} id {identifier} T {period} C {capacity} pr {priority}{kind}")
         }
     }
 }
@@ -134,11 +146,14 @@ mod tests {
 
     #[test]
     fn there_and_back() {
-        let text = "admit 0 id 65793 T 10 C 3 pr 1\nwake 0 id 257\nblock 11 id 0\n\
+        let text = "admit 0 id 65793 T 10 C 3 pr 1\nadmit 0 id 2 T 10 C 3 pr 1 kind 1\n\
+                    admit 0 id 2 T 10 C 3 pr 1 kind 255\nwake 0 id 257\nblock 11 id 0\n\
                     remove 18446744073709551615 id 16777215\ntick 3\nbytes 05 00\n";
         let bytes = to_records(text).unwrap();
-        assert_eq!(bytes.len(), 23 + 3 * 14 + 11 + 2);
+        assert_eq!(bytes.len(), 3 * 24 + 3 * 14 + 11 + 2);
         assert_eq!(from_records(&bytes), text);
+        let admit = "admit 0 id 65793 T 10 C 3 pr 1";
+        assert_eq!(record(&format!("{admit} kind 0")), record(admit));
     }
 
     #[test]
@@ -154,6 +169,11 @@ mod tests {
             "admit 0 id 1 C 3 T 10 pr 1",
             "admit 0 id 1 T 10 C 3 pr 256",
             "admit 0 id 1 T 4294967296 C 3 pr 2",
+            "admit 0 id 1 T 10 C 3 pr 1 2",
+            "admit 0 id 1 T 10 C 3 pr 1 kind",
+            "admit 0 id 1 T 10 C 3 pr 1 kind 256",
+            "admit 0 id 1 T 10 C 3 pr 1 kind 2 2",
+            "wake 0 id 1 kind 1",
             "sleep 3",
             "bytes 5",
             "bytes +5",

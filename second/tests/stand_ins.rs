@@ -3,12 +3,12 @@
 use std::process::Command;
 
 /// What a command of second says to a stand-in, by exit status.
-fn said(words: &[&str], stand_in: &str, wait: &str, variables: &[(&str, &str)]) -> Result<String, String> {
+fn said(words: &[&str], stand_in: &str, variables: &[(&str, &str)]) -> Result<String, String> {
     let second = env!("CARGO_BIN_EXE_second");
     let program = format!("{}/tests/stand_ins/{stand_in}", env!("CARGO_MANIFEST_DIR"));
     let done = Command::new(second)
         .args(words)
-        .args([&program, "--wait", wait])
+        .arg(&program)
         .env("SECOND", second)
         .envs(variables.iter().copied())
         .output()
@@ -22,7 +22,8 @@ fn said(words: &[&str], stand_in: &str, wait: &str, variables: &[(&str, &str)]) 
 
 /// What `compare-card` says to a stand-in that goes on so behind a line.
 fn compared(stand_in: &str, wait: &str, after: &str, then: &str) -> Result<String, String> {
-    said(&["compare-card", "--records", "20000"], stand_in, wait, &[("AFTER", after), ("THEN", then)])
+    let words = ["compare-card", "--records", "20000", "--wait", wait];
+    said(&words, stand_in, &[("AFTER", after), ("THEN", then)])
 }
 
 const ENOUGH: &str = "60";
@@ -80,9 +81,43 @@ fn a_card_that_answers_late_is_seen() {
 
 #[test]
 fn a_right_sizing_agrees_and_one_that_reads_on_is_seen() {
-    let said = |stand_in, wait| said(&["compare-sizing"], stand_in, wait, &[]);
+    let said = |stand_in, wait| said(&["compare-sizing", "--wait", wait], stand_in, &[]);
     let right = said("sizing", ENOUGH).unwrap();
     assert!(right.contains("queries agree"), "{right}");
     let fault = said("sizing_reads_on", SHORT).unwrap_err();
     assert!(fault.contains("has not ended"), "{fault}");
+}
+
+/// What `outside` says to a card that reads the records otherwise.
+fn seen_from_outside(edit: &str) -> Result<String, String> {
+    said(&["outside", "--runs", "400"], "reads_otherwise", &[("EDIT", edit)])
+}
+
+#[test]
+fn demand_3_of_a_right_card_holds_from_outside() {
+    let said = seen_from_outside("").unwrap();
+    assert!(said.contains("usable ticks agree"), "{said}");
+}
+
+#[test]
+fn a_card_that_takes_one_kind_for_another_is_seen_from_outside() {
+    for edit in ["s/kind 2$/kind 1/", "s/kind 1$/kind 2/", "s/kind 1$/kind 0/", "s/kind 2$/kind 0/"] {
+        let fault = seen_from_outside(edit).unwrap_err();
+        assert!(fault.contains("usable ticks"), "{edit}: {fault}");
+    }
+}
+
+#[test]
+fn a_card_that_lets_a_refilled_tenant_have_the_whole_period_is_seen_from_outside() {
+    for kind in ["1", "2"] {
+        let whole = format!("s/T ([0-9]+) C [0-9]+ (pr [0-9]+ kind {kind})$/T \\1 C \\1 \\2/");
+        let fault = seen_from_outside(&whole).unwrap_err();
+        assert!(fault.contains("usable ticks") || fault.contains("it may hold"), "{kind}: {fault}");
+    }
+}
+
+#[test]
+fn a_card_that_admits_an_unknown_kind_is_seen_from_outside() {
+    let fault = seen_from_outside("s/kind (3|255)$/kind 1/").unwrap_err();
+    assert!(fault.contains("is admitted with the kind"), "{fault}");
 }

@@ -83,7 +83,7 @@ so-far [] h =
 so-far (x ∷ before) h = after-goes (x .got) (came (x ∷ before)) (afterReads before) h
 
 -- what waits is shorter than a longest record
-pub held-few : (s : List ℕ) (r : Round) → SoFar s r → r .held < 23
+pub held-few : (s : List ℕ) (r : Round) → SoFar s r → r .held < 24
 held-few s r f =
     omega (
       arith,

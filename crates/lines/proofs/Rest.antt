@@ -34,8 +34,8 @@ use Rattle.lines.proofs.Reading.{some-bytes, within}
 use Rattle.lines.proofs.Served.{serve-end, serve-full, serve-no, serve-event}
 use Rattle.lines.proofs.Parts.{any-cut, any-room, parts-same}
 
--- tag 1, length 2, and no payload is longer than an admit's 20
-pub waits-few : (s : List ℕ) → waits s ≡ true → length s < 23
+-- tag 1, length 2, and no payload is longer than an admit's 21
+pub waits-few : (s : List ℕ) → waits s ≡ true → length s < 24
 unfolding waits
 waits-few s w =
     go
@@ -43,7 +43,7 @@ waits-few s w =
   where
     go : (ltb (length s) 3 ≡ true)
         ⊎ ((known (tag s) && (eqb (lengthSaid s) (payload (tag s)) && ltb (length s) (3 + payload (tag s)))) ≡ true)
-        → length s < 23
+        → length s < 24
     go (inl h) = omega (arith, ltb-true (length s) 3 h)
     go (inr h) =
         let p = and-true (known (tag s)) (eqb (lengthSaid s) (payload (tag s)) && ltb (length s) (3 + payload (tag s))) h in
@@ -63,7 +63,7 @@ twenty-waits s r (whole h k l p) e n = absurd (omega (arith, ap told (sym e ∙ 
 abbrev pub Left : Bool → List ℕ → Type 0
 Left last s = (s ≡ []) ⊎ ((last ≡ false) × (waits s ≡ true))
 
-pub left-few : (last : Bool) (s : List ℕ) → Left last s → length s < 23
+pub left-few : (last : Bool) (s : List ℕ) → Left last s → length s < 24
 left-few last s (inl e) = omega (arith, ap length e)
 left-few last s (inr w) = waits-few s (w .1)
 

@@ -1,6 +1,7 @@
 // Times the calls: it makes them from a deterministic generator, and writes sums over the replies and how many were refused. Each kind of
 // number has a sum of its own: moments, identifiers, amounts, and the numbers and the details of refusals.
-// Standard input: four digits for how many VCPUs, one for the mix (0 mixed, 1 busy), ten for how many calls.
+// Standard input: four digits for how many VCPUs, one for the mix (0 mixed, 1 busy, 2 mixed with a third of the VCPUs of each kind), ten
+// for how many calls.
 use libc::STDIN_FILENO;
 use libc::STDOUT_FILENO;
 use turns::Answer;
@@ -48,28 +49,29 @@ fn id_of(k: u64) -> Tunnel {
     Tunnel::new(((k % 1000000 + 1) * 791900 % NOBODY) as u32)
 }
 
-fn terms(k: u64, d: u64) -> Description {
+// All are sporadic, but for the mix of the three kinds.
+fn kind_in(mix: u64, d: u64) -> u8 {
+    if mix == 2 { (d / 7 % 3) as u8 } else { 0 }
+}
+
+fn described(k: u64, d: u64, kind: u8, capacity: Amount) -> Description {
     let tunnel = id_of(k);
     let period = Amount::new((50 + d % 1000) as u32);
-    let capacity = Amount::new((1 + d % 20) as u32);
     Description {
         tunnel,
         period,
         capacity,
         priority: (d % 7) as u8,
+        kind,
     }
 }
 
-fn bad_terms(k: u64, d: u64) -> Description {
-    let tunnel = id_of(k);
-    let period = Amount::new((50 + d % 1000) as u32);
-    let capacity = Amount::new(0);
-    Description {
-        tunnel,
-        period,
-        capacity,
-        priority: (d % 7) as u8,
-    }
+fn terms(k: u64, d: u64, kind: u8) -> Description {
+    described(k, d, kind, Amount::new((1 + d % 20) as u32))
+}
+
+fn bad_terms(k: u64, d: u64, kind: u8) -> Description {
+    described(k, d, kind, Amount::new(0))
 }
 
 // Some ticks after the last accepted call, but not past the timer.
@@ -119,7 +121,7 @@ fn busy(n: u64, d: u64, last: Moment, timer: Moment) -> Event
 }
 
 // A change that row 4, 5, 7, 8 or 6 refuses. Only a card of 32 is full.
-fn wrong_change(sel: u64, n: u64, who: u64, d: u64) -> Change
+fn wrong_change(sel: u64, n: u64, who: u64, d: u64, kind: u8) -> Change
     requires { ⌜ n ≤ 9999 ⌝ }
 {
     if sel < 32 {
@@ -127,7 +129,7 @@ fn wrong_change(sel: u64, n: u64, who: u64, d: u64) -> Change
         return Change::Wake(too_large);
     }
     if sel < 33 {
-        let bad = bad_terms(who, d);
+        let bad = bad_terms(who, d, kind);
         return Change::Admit(bad);
     }
     if sel < 34 {
@@ -135,15 +137,15 @@ fn wrong_change(sel: u64, n: u64, who: u64, d: u64) -> Change
         return Change::Wake(nobody);
     }
     if sel < 35 && 32 <= n {
-        let new = terms(n, d);
+        let new = terms(n, d, kind);
         return Change::Admit(new);
     }
-    let again = terms(who, d);
+    let again = terms(who, d, kind);
     Change::Admit(again)
 }
 
 // A call that some row refuses; the late one is accepted where the timer is later still.
-fn wrong(sel: u64, n: u64, d: u64, last: Moment, now: Moment) -> Event
+fn wrong(sel: u64, n: u64, d: u64, kind: u8, last: Moment, now: Moment) -> Event
     requires { ⌜ (1 ≤ n) × (n ≤ 9999) ⌝ }
 {
     let who = d / 512 % n;
@@ -166,12 +168,12 @@ fn wrong(sel: u64, n: u64, d: u64, last: Moment, now: Moment) -> Event
             change: Change::Tick,
         };
     }
-    let change = wrong_change(sel, n, who, d);
+    let change = wrong_change(sel, n, who, d, kind);
     Event { now, change }
 }
 
 // A tick, a wake, a block, or a call that is refused.
-fn any(n: u64, d: u64, last: Moment, now: Moment) -> Event
+fn any(n: u64, d: u64, kind: u8, last: Moment, now: Moment) -> Event
     requires { ⌜ (1 ≤ n) × (n ≤ 9999) ⌝ }
 {
     let sel = d % 36;
@@ -194,11 +196,11 @@ fn any(n: u64, d: u64, last: Moment, now: Moment) -> Event
             change: Change::Block(id),
         };
     }
-    wrong(sel, n, d, last, now)
+    wrong(sel, n, d, kind, last, now)
 }
 
 // Once in 32 calls a VCPU is removed, and admitted anew by the next call.
-fn mixed(k: u64, n: u64, d: u64, last: Moment, timer: Moment) -> Event
+fn mixed(k: u64, n: u64, d: u64, kind: u8, last: Moment, timer: Moment) -> Event
     requires { ⌜ (1 ≤ n) × (n ≤ 9999) ⌝ }
 {
     let now = next(last, d, timer);
@@ -211,21 +213,22 @@ fn mixed(k: u64, n: u64, d: u64, last: Moment, timer: Moment) -> Event
         };
     }
     if k % 32 == 1 {
-        let new = terms(place, d);
+        let new = terms(place, d, kind);
         return Event {
             now,
             change: Change::Admit(new),
         };
     }
-    any(n, d, last, now)
+    any(n, d, kind, last, now)
 }
 
 fn call(k: u64, n: u64, mix: u64, s: u64, last: Moment, timer: Moment) -> Event
     requires { ⌜ (1 ≤ n) × (n ≤ 9999) ⌝ }
 {
     let d = s / 64;
+    let kind = kind_in(mix, d);
     if k < n {
-        let new = terms(k, d);
+        let new = terms(k, d, kind);
         return Event {
             now: last,
             change: Change::Admit(new),
@@ -238,8 +241,8 @@ fn call(k: u64, n: u64, mix: u64, s: u64, last: Moment, timer: Moment) -> Event
             change: Change::Wake(id),
         };
     }
-    if mix == 0 {
-        return mixed(k, n, d, last, timer);
+    if mix == 0 || mix == 2 {
+        return mixed(k, n, d, kind, last, timer);
     }
     busy(n, d, last, timer)
 }

@@ -62,16 +62,20 @@ module _ (s : List ℕ) (h : AreBytes s) where
       ∙ ap (λ (l : List ℕ). take 1 s ++ l) (part s 1 2 8)
       ∙ part s 0 1 10
 
-  admit-again : 23 ≤ length s → fieldsOf (admit (description s)) ≡ take 12 (drop 11 s)
+  admit-again : 24 ≤ length s → fieldsOf (admit (description s)) ≡ take 13 (drop 11 s)
   admit-again p =
       cat (bytes-number 3 11 (omega arith))
       (cat (bytes-number 4 14 (omega arith))
-      (cat (bytes-number 4 18 (omega arith)) (byte-number 22 (getD s 22 0) (zero-add (getD s 22 0)) (omega arith)) ∙ part s 18 4 1)
-      ∙ part s 14 4 5)
-      ∙ part s 11 3 9
+      (cat (bytes-number 4 18 (omega arith))
+      (cat (byte-number 22 (getD s 22 0) (zero-add (getD s 22 0)) (omega arith))
+      (byte-number 23 (getD s 23 0) (zero-add (getD s 23 0)) (omega arith))
+      ∙ part s 22 1 1)
+      ∙ part s 18 4 2)
+      ∙ part s 14 4 6)
+      ∙ part s 11 3 10
 
   fields-again : (k n m : ℕ) → Layout k n → 3 + n ≤ length s → 11 + m ≡ 3 + n → fieldsOf (asked k s) ≡ take m (drop 11 s)
-  fields-again k n m admit-has p q = let e : m ≡ 12 = omega arith in rw e (admit-again (omega arith))
+  fields-again k n m admit-has p q = let e : m ≡ 13 = omega arith in rw e (admit-again (omega arith))
   fields-again k n m wake-has p q = let e : m ≡ 3 = omega arith in rw e (bytes-number 3 11 (omega arith))
   fields-again k n m block-has p q = let e : m ≡ 3 = omega arith in rw e (bytes-number 3 11 (omega arith))
   fields-again k n m remove-has p q = let e : m ≡ 3 = omega arith in rw e (bytes-number 3 11 (omega arith))
@@ -95,7 +99,8 @@ module _ (s : List ℕ) (h : AreBytes s) where
   identifier-again = le-leb (identifier s) largestTunnel (omega (arith, number-below 3 11))
 
   in-range-again : (k n : ℕ) → Layout k n → InRange (record { now = time s; asked = asked k s })
-  in-range-again k n admit-has = ((number-below 8 3, (number-below 4 14, number-below 4 18, byte-at s 22 h)), identifier-again)
+  in-range-again k n admit-has =
+      ((number-below 8 3, (number-below 4 14, number-below 4 18, byte-at s 22 h, byte-at s 23 h)), identifier-again)
   in-range-again k n wake-has = ((number-below 8 3, tt), identifier-again)
   in-range-again k n block-has = ((number-below 8 3, tt), identifier-again)
   in-range-again k n remove-has = ((number-below 8 3, tt), identifier-again)

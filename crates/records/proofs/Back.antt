@@ -37,7 +37,7 @@ module _ (now : ℕ) (t : List ℕ) where
 
   time-back : (a : Change) → now < 256 ^ 8 → time (whole a) ≡ now
   unfolding whole recordOf head payload payloadOf
-  time-back (admit d) h = number-field (1 ∷ 0 ∷ 20 ∷ []) (fieldsOf (admit d) ++ t) 8 now h
+  time-back (admit d) h = number-field (1 ∷ 0 ∷ 21 ∷ []) (fieldsOf (admit d) ++ t) 8 now h
   time-back (wake i) h = number-field (2 ∷ 0 ∷ 11 ∷ []) (fieldsOf (wake i) ++ t) 8 now h
   time-back (block i) h = number-field (3 ∷ 0 ∷ 11 ∷ []) (fieldsOf (block i) ++ t) 8 now h
   time-back (remove i) h = number-field (4 ∷ 0 ∷ 11 ∷ []) (fieldsOf (remove i) ++ t) 8 now h
@@ -51,16 +51,18 @@ module _ (now : ℕ) (t : List ℕ) where
   described-back : (d : Description) → d .tunnel < 256 ^ 3 → TermsOfTheirTypes (admit d) → description (whole (admit d)) ≡ d
   unfolding whole recordOf head payload payloadOf
   described-back d n h =
-      let a : List ℕ = head 1 20 now in
+      let a : List ℕ = head 1 21 now in
       let p : List ℕ = bytesOf 4 (d .period) in
       let c : List ℕ = bytesOf 4 (d .capacity) in
       let u : List ℕ = bytesOf 1 (d .priority) in
-      let i : identifier (whole (admit d)) ≡ d .tunnel = number-field a (p ++ (c ++ (u ++ t))) 3 (d .tunnel) n in
-      let e : number (whole (admit d)) 14 4 ≡ d .period = number-field (a ++ bytesOf 3 (d .tunnel)) (c ++ (u ++ t)) 4 (d .period) (h .0) in
+      let r : List ℕ = u ++ (bytesOf 1 (d .kind) ++ t) in
+      let i : identifier (whole (admit d)) ≡ d .tunnel = number-field a (p ++ (c ++ r)) 3 (d .tunnel) n in
+      let e : number (whole (admit d)) 14 4 ≡ d .period = number-field (a ++ bytesOf 3 (d .tunnel)) (c ++ r) 4 (d .period) (h .0) in
       let f : number (whole (admit d)) 18 4 ≡ d .capacity =
-      number-field (a ++ (bytesOf 3 (d .tunnel) ++ p)) (u ++ t) 4 (d .capacity) (h .1) in
+      number-field (a ++ (bytesOf 3 (d .tunnel) ++ p)) r 4 (d .capacity) (h .1) in
       let g : d .priority % 256 ≡ d .priority = omega (arith, h .2) in
-      same-terms d i e f g
+      let k : d .kind % 256 ≡ d .kind = omega (arith, h .3) in
+      same-terms d i e f g k
 
   asked-back : (a : Change) → has24Bits a ≡ true → TermsOfTheirTypes a → asked (tagOf a) (whole a) ≡ a
   unfolding whole recordOf head payload payloadOf
@@ -90,10 +92,12 @@ event-reads-back e h t =
 
 fields-below : (a : Change) → AreBytes (fieldsOf a)
 fields-below (admit d) =
-    let c : List ℕ = bytesOf 4 (d .capacity) ++ bytesOf 1 (d .priority) in
+    let u : List ℕ = bytesOf 1 (d .priority) ++ bytesOf 1 (d .kind) in
+    let c : List ℕ = bytesOf 4 (d .capacity) ++ u in
     let p : List ℕ = bytesOf 4 (d .period) ++ c in
     bytes-then 3 (d .tunnel) p
-    (bytes-then 4 (d .period) c (bytes-then 4 (d .capacity) (bytesOf 1 (d .priority)) (bytes-below 1 (d .priority))))
+    (bytes-then 4 (d .period) c
+    (bytes-then 4 (d .capacity) u (bytes-then 1 (d .priority) (bytesOf 1 (d .kind)) (bytes-below 1 (d .kind)))))
 fields-below (wake i) = bytes-below 3 i
 fields-below (block i) = bytes-below 3 i
 fields-below (remove i) = bytes-below 3 i

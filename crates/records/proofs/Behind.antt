@@ -81,13 +81,14 @@ module _ (s t : List ℕ) where
   pub said-append : 3 ≤ length s → lengthSaid (s ++ t) ≡ lengthSaid s
   said-append h = number-append 2 1 s t (omega arith)
 
-  described-append : 23 ≤ length s → description (s ++ t) ≡ description s
+  described-append : 24 ≤ length s → description (s ++ t) ≡ description s
   described-append h =
       rw (
         number-append 3 11 s t (omega arith),
         number-append 4 14 s t (omega arith),
         number-append 4 18 s t (omega arith),
         List·getD-append s t 0 22 (omega arith),
+        List·getD-append s t 0 23 (omega arith),
       )
 
   named-append : 14 ≤ length s → identifier (s ++ t) ≡ identifier s
@@ -150,21 +151,21 @@ unfoldable pub told : Read → ℕ
 told (Got e) = 0
 told (No r) = r .number
 
-third-zero : (s : List ℕ) → length s < 3 → getD (s ++ replicate 20 0) 2 0 ≡ 0
+third-zero : (s : List ℕ) → length s < 3 → getD (s ++ replicate 21 0) 2 0 ≡ 0
 third-zero [] h = refl
 third-zero (a ∷ []) h = refl
 third-zero (a ∷ b ∷ []) h = refl
 third-zero (a ∷ b ∷ c ∷ s) h = absurd (omega arith)
 
-header-changes : (s : List ℕ) → length s < 3 → told (readSpec (s ++ replicate 20 0)) ≡ 20 → ⊥
+header-changes : (s : List ℕ) → length s < 3 → told (readSpec (s ++ replicate 21 0)) ≡ 20 → ⊥
 unfolding told
 header-changes s h = go (known (tag x)) refl
   where
     x : List ℕ
-    x = s ++ replicate 20 0
+    x = s ++ replicate 21 0
 
     long : 3 ≤ length x
-    long = omega (arith, length-append s (replicate 20 0))
+    long = omega (arith, length-append s (replicate 21 0))
 
     other-said : known (tag x) ≡ true → lengthSaid x ≡ payload (tag x) → ⊥
     other-said k e = omega (arith, third-zero s h, payload-bounds (tag x) k)
@@ -173,13 +174,13 @@ header-changes s h = go (known (tag x)) refl
     go true k n = omega (arith, ap told (answers x (no 22) (other-length x long k (other-said k))))
     go false k n = omega (arith, ap told (answers x (no 21) (unknown-tag x long k)))
 
-waits-changes : (s : List ℕ) → Case s → waits s ≡ true → told (readSpec (s ++ replicate 20 0)) ≡ 20 → ⊥
+waits-changes : (s : List ℕ) → Case s → waits s ≡ true → told (readSpec (s ++ replicate 21 0)) ≡ 20 → ⊥
 unfolding told
 waits-changes s (header h) w n = header-changes s h n
 waits-changes s (unknown h k) w n = clash (sym w ∙ settled-unknown s h k)
 waits-changes s (other h k d) w n = clash (sym w ∙ settled-other s h k d)
 waits-changes s (short h k e p) w n =
-    let t : List ℕ = replicate 20 0 in
+    let t : List ℕ = replicate 21 0 in
     let x : List ℕ = s ++ t in
     let g : tag x ≡ tag s = tag-append s t h in
     let l : 3 + payload (tag x) ≤ length x = omega (arith, ap payload g, payload-bounds (tag s) k, length-append s t) in
@@ -190,7 +191,7 @@ waits-changes s (whole h k e p) w n = clash (sym w ∙ settled-whole s h k e p)
 pub waits-exactly : (s : List ℕ) → waits s ≡ true ↔ ((t : List ℕ) × AreBytes t × (readSpec (s ++ t) ≡ readSpec s → ⊥))
 unfolding told
 waits-exactly s = (
-  (λ w. (replicate 20 0, zeros 20, λ e. waits-changes s (case s) w (ap told (e ∙ read-waits s w)))),
+  (λ w. (replicate 21 0, zeros 21, λ e. waits-changes s (case s) w (ap told (e ∙ read-waits s w)))),
   λ x. go (waits s) refl x,
 )
   where

@@ -13,13 +13,14 @@ use Rattle.records.specs.declared.answers.Read.the-variants.{Event as Go
 use Rattle.records.specs.Record.{Reading, event, refused, reading}
 use Rattle.records.specs.Answer.{paperEvent, paperRead, eventSaid, readSaid, readSpec}
 
--- a call is its time and what it asks, and a description its four numbers
+-- a call is its time and what it asks, and a description its five numbers
 pub same-call : {n m : ℕ} {a b : Change} → n ≡ m → a ≡ b → _≡_ {A = Call} (record { now = n; asked = a }) (record { now = m; asked = b })
 same-call e f = rw (e, f)
 
-pub same-terms : (d : Description) {i p c u : ℕ} → i ≡ d .tunnel → p ≡ d .period → c ≡ d .capacity → u ≡ d .priority
-    → _≡_ {A = Description} (record { tunnel = i; period = p; capacity = c; priority = u }) d
-same-terms d e f g h = rw (e, f, g, h)
+pub same-terms : (d : Description) {i p c u k : ℕ}
+    → i ≡ d .tunnel → p ≡ d .period → c ≡ d .capacity → u ≡ d .priority → k ≡ d .kind
+    → _≡_ {A = Description} (record { tunnel = i; period = p; capacity = c; priority = u; kind = k }) d
+same-terms d e f g h k = rw (e, f, g, h, k)
 
 -- an event is what its own values say
 pub said-again : (e : Event) → eventSaid (paperEvent e .now) (paperEvent e .asked) ≡ e

@@ -88,8 +88,14 @@ module _ (s : List ℕ) where
       → Says s (record { now = time s; asked = asked k s })
   says-call k n admit-has t l p =
       says-admit (description s) refl
-      (headed 1 20 t l ((identifier s, 3) ∷ (number s 14 4, 4) ∷ (number s 18 4, 4) ∷ (getD s 22 0, 1) ∷ []) (omega arith)
-      (omega arith, refl, (omega arith, refl, (omega arith, refl, (omega arith, zero-add (getD s 22 0), tt)))))
+      (headed 1 21 t l ((identifier s, 3) ∷ (number s 14 4, 4) ∷ (number s 18 4, 4) ∷ last) (omega arith)
+      (omega arith, refl, (omega arith, refl, (omega arith, refl, last-stand))))
+    where
+      last : List (ℕ × ℕ)
+      last = (getD s 22 0, 1) ∷ (getD s 23 0, 1) ∷ []
+
+      last-stand : Stand s 22 last
+      last-stand = (omega arith, zero-add (getD s 22 0), (omega arith, zero-add (getD s 23 0), tt))
   says-call k n wake-has t l p = says-wake (identifier s) refl (named 2 t l p)
   says-call k n block-has t l p = says-block (identifier s) refl (named 3 t l p)
   says-call k n remove-has t l p = says-remove (identifier s) refl (named 4 t l p)
@@ -172,13 +178,14 @@ module _ (s : List ℕ) where
 
   said : (c : Call) → Says s c → reading s ≡ event c
   said c (says-admit d e b) =
-      let terms : List (ℕ × ℕ) = (d .tunnel, 3) ∷ (d .period, 4) ∷ (d .capacity, 4) ∷ (d .priority, 1) ∷ [] in
-      let q = stand s 0 ((1, 1) ∷ (20, 2) ∷ (c .now, 8) ∷ terms) (omega arith) b in
+      let terms : List (ℕ × ℕ) = (d .tunnel, 3) ∷ (d .period, 4) ∷ (d .capacity, 4) ∷ (d .priority, 1) ∷ (d .kind, 1) ∷ [] in
+      let q = stand s 0 ((1, 1) ∷ (21, 2) ∷ (c .now, 8) ∷ terms) (omega arith) b in
       let f = q .2 .2 .2 in
-      whole 1 20 admit-has (sym (zero-add (tag s)) ∙ q .1) (q .2 .1) (f .2 .2 .2 .0)
+      let priority : getD s 22 0 ≡ d .priority = sym (zero-add (getD s 22 0)) ∙ f .2 .2 .2 .1 in
+      let kind : getD s 23 0 ≡ d .kind = sym (zero-add (getD s 23 0)) ∙ f .2 .2 .2 .2 .1 in
+      whole 1 21 admit-has (sym (zero-add (tag s)) ∙ q .1) (q .2 .1) (f .2 .2 .2 .2 .0)
       ∙ ap event
-      (same-call (q .2 .2 .1)
-      (ap admit (same-terms d (f .1) (f .2 .1) (f .2 .2 .1) (sym (zero-add (getD s 22 0)) ∙ f .2 .2 .2 .1)) ∙ sym e))
+      (same-call (q .2 .2 .1) (ap admit (same-terms d (f .1) (f .2 .1) (f .2 .2 .1) priority kind) ∙ sym e))
   said c (says-wake t e b) = let q = names 2 (c .now) t wake-has b in q .0 ∙ ap event (same-call (q .1) (ap wake (q .2) ∙ sym e))
   said c (says-block t e b) = let q = names 3 (c .now) t block-has b in q .0 ∙ ap event (same-call (q .1) (ap block (q .2) ∙ sym e))
   said c (says-remove t e b) = let q = names 4 (c .now) t remove-has b in q .0 ∙ ap event (same-call (q .1) (ap remove (q .2) ∙ sym e))

@@ -25,7 +25,7 @@ sort k = go (eqb k 1) refl (eqb k 2) refl (eqb k 3) refl (eqb k 4) refl (eqb k 5
 
     go : (a : Bool) → eqb k 1 ≡ a → (b : Bool) → eqb k 2 ≡ b → (c : Bool) → eqb k 3 ≡ c → (d : Bool) → eqb k 4 ≡ d
         → (f : Bool) → eqb k 5 ≡ f → Sort k
-    go true p b q c r d s f t = at 1 20 p admit-has
+    go true p b q c r d s f t = at 1 21 p admit-has
     go false p true q c r d s f t = at 2 11 q wake-has
     go false p false q true r d s f t = at 3 11 r block-has
     go false p false q false r true s f t = at 4 11 s remove-has
@@ -44,7 +44,7 @@ layout-is k n remove-has = refl
 layout-is k n tick-has = refl
 
 -- the tags are 1 to 5; the time is in every payload, and no payload is longer than admit's
-layout-bounds : (k n : ℕ) → Layout k n → (1 ≤ k) × (k ≤ 5) × (8 ≤ n) × (n ≤ 20)
+layout-bounds : (k n : ℕ) → Layout k n → (1 ≤ k) × (k ≤ 5) × (8 ≤ n) × (n ≤ 21)
 layout-bounds k n admit-has = omega arith
 layout-bounds k n wake-has = omega arith
 layout-bounds k n block-has = omega arith
@@ -92,5 +92,5 @@ payload-naming k a b = go (sort k)
     go (one n l) = layout-is k n l ∙ ap some (layout-naming k n l a b)
     go (other e o) = absurd (o (omega arith) (omega arith))
 
-pub payload-bounds : (k : ℕ) → known k ≡ true → (8 ≤ payload k) × (payload k ≤ 20)
+pub payload-bounds : (k : ℕ) → known k ≡ true → (8 ≤ payload k) × (payload k ≤ 21)
 payload-bounds k h = omega (arith, layout-bounds k (payload k) (known-layout k h))

@@ -16,7 +16,7 @@ use Rattle.records.specs.Record.{known, payloadOf, payload, tag, lengthS
 use Rattle.records.specs.Answer.{paperEvent}
 use Rattle.records.specs.Encode.{tagOf, fieldsOf, head, recordOf, sizeOf, has24Bits, isWritten, writtenSize, outAfter, laid}
 
--- "admit, 20 bytes; wake, block, remove, 11 bytes each; tick, 8 bytes"
+-- "admit, 21 bytes; wake, block, remove, 11 bytes each; tick, 8 bytes"
 record-says : (c : Call)
     → (length (recordOf c) ≡ 3 + payload (tagOf (c .asked)))
     × (tag (recordOf c) ≡ tagOf (c .asked))

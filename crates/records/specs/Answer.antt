@@ -37,7 +37,13 @@ paperPayload Unknown = none
 abbrev pub eventSaid : ℕ → Change → Event
 eventSaid now (admit d) =
     Admit (moment now)
-    (record { tunnel = tunnel (d .tunnel); period = amount (d .period); capacity = amount (d .capacity); priority = d .priority })
+    (record {
+      tunnel = tunnel (d .tunnel);
+      period = amount (d .period);
+      capacity = amount (d .capacity);
+      priority = d .priority;
+      kind = d .kind;
+    })
 eventSaid now (wake t) = Wake (moment now) (tunnel t)
 eventSaid now (block t) = Block (moment now) (tunnel t)
 eventSaid now (remove t) = Remove (moment now) (tunnel t)

@@ -23,9 +23,11 @@ tagOf (block t) = 3
 tagOf (remove t) = 4
 tagOf tick = 5
 
--- the payload behind its time: "identifier 3, period 4, capacity 4, priority 1"
+-- the payload behind its time: "identifier 3, period 4, capacity 4, priority 1", and the kind
 abbrev pub fieldsOf : Change → List ℕ
-fieldsOf (admit d) = bytesOf 3 (d .tunnel) ++ (bytesOf 4 (d .period) ++ (bytesOf 4 (d .capacity) ++ bytesOf 1 (d .priority)))
+fieldsOf (admit d) =
+    bytesOf 3 (d .tunnel)
+    ++ (bytesOf 4 (d .period) ++ (bytesOf 4 (d .capacity) ++ (bytesOf 1 (d .priority) ++ bytesOf 1 (d .kind))))
 fieldsOf (wake t) = bytesOf 3 t
 fieldsOf (block t) = bytesOf 3 t
 fieldsOf (remove t) = bytesOf 3 t
@@ -51,9 +53,9 @@ has24Bits (block t) = leb t largestTunnel
 has24Bits (remove t) = leb t largestTunnel
 has24Bits tick = true
 
--- what the declared types guarantee of an admit's terms: period 32 bits, capacity 32, priority 8
+-- what the declared types guarantee of an admit's terms: period 32 bits, capacity 32, priority 8, kind 8
 abbrev pub TermsOfTheirTypes : Change → Type 0
-TermsOfTheirTypes (admit d) = (d .period < 2 ^ 32) × (d .capacity < 2 ^ 32) × (d .priority < 2 ^ 8)
+TermsOfTheirTypes (admit d) = (d .period < 2 ^ 32) × (d .capacity < 2 ^ 32) × (d .priority < 2 ^ 8) × (d .kind < 2 ^ 8)
 TermsOfTheirTypes (wake t) = Unit {0}
 TermsOfTheirTypes (block t) = Unit {0}
 TermsOfTheirTypes (remove t) = Unit {0}

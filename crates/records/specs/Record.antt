@@ -1,4 +1,4 @@
--- Document 01, "Event records and lines": what a record says, in plain numbers, and the checks in their order.
+-- Document 01, "Event records and lines", with document 02's kind: what a record says, in plain numbers, and the checks in their order.
 -- Assumes nothing.
 use Prim.Native.Nat.{ℕ, _+_}
 use mathlib.Core.Bool.{Bool, true, false, cond, not, _&&_, _||_}
@@ -17,10 +17,11 @@ pub data Reading : Type 0 where
   event : Call → Reading
   refused : Refusal → Reading
 
--- the bytes of a tag's payload: "1 admit, 20 bytes", "2 wake, 3 block, 4 remove, 11 bytes each", "5 tick, 8 bytes"; no other is known
+-- the bytes of a tag's payload: "Admit records become 21 bytes", "2 wake, 3 block, 4 remove, 11 bytes each", "5 tick, 8 bytes"; no other
+-- is known
 unfoldable pub payloadOf : ℕ → Option ℕ
 payloadOf tag =
-    cond (eqb tag 1) (some 20)
+    cond (eqb tag 1) (some 21)
     (cond (eqb tag 2) (some 11)
     (cond (eqb tag 3) (some 11)
     (cond (eqb tag 4) (some 11)
@@ -45,7 +46,7 @@ tag s = getD s 0 0
 abbrev pub lengthSaid : List ℕ → ℕ
 lengthSaid s = number s 1 2
 
--- "time 8, identifier 3, period 4, capacity 4, priority 1"
+-- "time 8, identifier 3, period 4, capacity 4, priority 1", "with the kind last"
 abbrev pub time : List ℕ → ℕ
 time s = number s 3 8
 
@@ -54,7 +55,7 @@ identifier s = number s 11 3
 
 abbrev pub description : List ℕ → Description
 description s =
-    record { tunnel = identifier s; period = number s 14 4; capacity = number s 18 4; priority = getD s 22 0 }
+    record { tunnel = identifier s; period = number s 14 4; capacity = number s 18 4; priority = getD s 22 0; kind = getD s 23 0 }
 
 abbrev pub asked : ℕ → List ℕ → Change
 asked tag s =

@@ -1,5 +1,6 @@
--- Document 01, "Event records and lines" with rows 20 to 22 of "Reply numbers", as plain facts of the bytes: where each check applies,
--- that the first that does is given, and which call is read where none does. Proved of all bytes in proofs/Rows. Assumes nothing.
+-- Document 01, "Event records and lines" with rows 20 to 22 of "Reply numbers" and document 02's kind, as plain facts of the bytes: where
+-- each check applies, that the first that does is given, and which call is read where none does. Proved of all bytes in proofs/Rows.
+-- Assumes nothing.
 use Prim.Native.Nat.{ℕ, _+_, _*_, _^_, _<_}
 use mathlib.Core.Path.{_≡_}
 use mathlib.Core.List.{List, [], _∷_, _++_}
@@ -26,9 +27,10 @@ Begins s (field ∷ fields) =
     × (bigEndian bytes ≡ field .0)
     × Begins rest fields
 
--- the bytes of a tag's payload: "1 admit, 20 bytes", "2 wake, 3 block, 4 remove, 11 bytes each", "5 tick, 8 bytes"; 6 and 7 have none here
+-- the bytes of a tag's payload: "Admit records become 21 bytes", "2 wake, 3 block, 4 remove, 11 bytes each", "5 tick, 8 bytes"; 6 and 7
+-- have none here
 pub data Layout : ℕ → ℕ → Type 0 where
-  admit-has : Layout 1 20
+  admit-has : Layout 1 21
   wake-has : Layout 2 11
   block-has : Layout 3 11
   remove-has : Layout 4 11
@@ -53,9 +55,11 @@ NoCheck s = (place number : ℕ) → Check s place number → ⊥
 
 -- the bytes begin with a whole record, and it says this call; what lies behind it is not looked at
 pub data Says (s : List ℕ) (c : Call) : Type 0 where
-  -- "1 admit, 20 bytes: time 8, identifier 3, period 4, capacity 4, priority 1"
+  -- "time 8, identifier 3, period 4, capacity 4, priority 1", "21 bytes with the kind last"
   says-admit : (d : Description) → c .asked ≡ admit d
-      → Begins s ((1, 1) ∷ (20, 2) ∷ (c .now, 8) ∷ (d .tunnel, 3) ∷ (d .period, 4) ∷ (d .capacity, 4) ∷ (d .priority, 1) ∷ []) → Says s c
+      → Begins s
+      ((1, 1) ∷ (21, 2) ∷ (c .now, 8) ∷ (d .tunnel, 3) ∷ (d .period, 4) ∷ (d .capacity, 4) ∷ (d .priority, 1) ∷ (d .kind, 1) ∷ [])
+      → Says s c
   -- "2 wake, 3 block, 4 remove, 11 bytes each: time 8, identifier 3"
   says-wake : (tunnel : ℕ) → c .asked ≡ wake tunnel → Begins s ((2, 1) ∷ (11, 2) ∷ (c .now, 8) ∷ (tunnel, 3) ∷ []) → Says s c
   says-block : (tunnel : ℕ) → c .asked ≡ block tunnel → Begins s ((3, 1) ∷ (11, 2) ∷ (c .now, 8) ∷ (tunnel, 3) ∷ []) → Says s c

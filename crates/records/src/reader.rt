@@ -69,7 +69,7 @@ fn capacity(bytes: &[u8]) -> u32
 }
 
 fn description(bytes: &[u8]) -> Description
-    requires { ⌜ 23 ≤ length (now bytes) ⌝ }
+    requires { ⌜ 24 ≤ length (now bytes) ⌝ }
     ensures { λ r. ⌜ described r ≡ saidDescription (now (bytes .entry)) ⌝ }
 {
     Description {
@@ -77,6 +77,7 @@ fn description(bytes: &[u8]) -> Description
         period: Amount::new(period(bytes)),
         capacity: Amount::new(capacity(bytes)),
         priority: bytes[22],
+        kind: bytes[23],
     }
 }
 

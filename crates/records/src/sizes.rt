@@ -1,7 +1,7 @@
 // The bytes of a record's parts: the header is a tag byte and a two-byte length; then the payload of each tag.
 pub(crate) const HEADER: usize = 3;
 
-pub(crate) const ADMIT: usize = 20;
+pub(crate) const ADMIT: usize = 21;
 
 // Wake, block and remove: a time and an identifier.
 pub(crate) const NAMING: usize = 11;

@@ -76,26 +76,27 @@ fn put_head(out: &mut [u8], tag: u64, payload: usize, time: Moment)
     put(out, HEADER, 8, time.ticks());
 }
 
-fn put_naming(out: &mut [u8], tag: u64, time: Moment, id: Tunnel)
+// The front of each record that names a VCPU.
+fn put_naming(out: &mut [u8], tag: u64, payload: usize, time: Moment, id: Tunnel)
     requires { ⌜ 14 ≤ length (now out) ⌝ }
-    ensures { λ r. ⌜ now (out .exit) ≡ laid (now (out .entry)) 0 (head tag 11 (time .0) ++ bytesOf 3 (id .0)) ⌝ }
+    ensures { λ r. ⌜ now (out .exit) ≡ laid (now (out .entry)) 0 (head tag payload (time .0) ++ bytesOf 3 (id .0)) ⌝ }
 {
-    put_head(out, tag, sizes::NAMING, time);
+    put_head(out, tag, payload, time);
     put(out, 11, 3, id.number() as u64);
 }
 
 fn put_admit(out: &mut [u8], time: Moment, d: Description)
-    requires { ⌜ 23 ≤ length (now out) ⌝ }
-    ensures { λ r. ⌜ now (out .exit) ≡ laid (now (out .entry)) 0 (head 1 20 (time .0) ++ fieldsOf (admit (described d))) ⌝ }
+    requires { ⌜ 24 ≤ length (now out) ⌝ }
+    ensures { λ r. ⌜ now (out .exit) ≡ laid (now (out .entry)) 0 (head 1 21 (time .0) ++ fieldsOf (admit (described d))) ⌝ }
 {
     let id = d.tunnel;
     let period = d.period;
     let capacity = d.capacity;
-    put_head(out, 1, sizes::ADMIT, time);
-    put(out, 11, 3, id.number() as u64);
+    put_naming(out, 1, sizes::ADMIT, time, id);
     put(out, 14, 4, period.ticks() as u64);
     put(out, 18, 4, capacity.ticks() as u64);
     put(out, 22, 1, d.priority as u64);
+    put(out, 23, 1, d.kind as u64);
 }
 
 // The event's record at the front of `out`, and how many bytes it has; where there is no room, or where the identifier would not
@@ -110,9 +111,9 @@ pub fn write(event: Event, out: &mut [u8]) -> usize
     }
     match event {
         Event::Admit(time, d) => put_admit(out, time, d),
-        Event::Wake(time, id) => put_naming(out, 2, time, id),
-        Event::Block(time, id) => put_naming(out, 3, time, id),
-        Event::Remove(time, id) => put_naming(out, 4, time, id),
+        Event::Wake(time, id) => put_naming(out, 2, sizes::NAMING, time, id),
+        Event::Block(time, id) => put_naming(out, 3, sizes::NAMING, time, id),
+        Event::Remove(time, id) => put_naming(out, 4, sizes::NAMING, time, id),
         Event::Tick(time) => put_head(out, 5, sizes::TICK, time),
     }
     whole

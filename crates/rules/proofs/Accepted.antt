@@ -6,10 +6,10 @@ use mathlib.Core.List.{List}
 use mathlib.Core.Option.{Option, none, some}
 use Prim.Native.Nat.{ℕ, _+_, _-_, _≤_, _<_}
 use native.Mathlib.Omega.{arith}
-use lib.Dec.{leb}
+use lib.Dec.{leb, ltb}
 use lib.ListN.{length}
 use borrow.Author.Tests.{leb-true, leb-false, not-false}
-use Rattle.rules.specs.Limits.{largestTime, largestPeriod, mostVcpus, inRange}
+use Rattle.rules.specs.Limits.{largestTime, largestPeriod, largestKind, mostVcpus, inRange}
 use Rattle.rules.specs.Lists.{count, All, Among}
 use Rattle.rules.specs.Vcpu.{Description, Vcpu, named}
 use Rattle.rules.specs.Card.{Card, onCard}
@@ -21,7 +21,7 @@ use Rattle.rules.specs.History.{holds}
 use Rattle.rules.proofs.Tests.{tests, clash, no-some, and-true}
 use Rattle.rules.proofs.Named.{named-itself}
 use Rattle.rules.proofs.Lists.{among-all, only-one}
-use Rattle.rules.specs.Meaning.{InRange, OnTheCard}
+use Rattle.rules.specs.Meaning.{TimerWhile, InRange, OnTheCard}
 use Rattle.rules.proofs.Choice.{chosen}
 use Rattle.rules.proofs.Timer.{while-running}
 
@@ -72,7 +72,8 @@ pub admits : (vs : List Vcpu) (d : Description) → admitRows vs d ≡ none → 
 admits vs d e =
     let a = row-passed (above24Bits (d .tunnel)) 4 0 _ e in
     let b = row-passed (not (inRange (d .period) (d .capacity))) 5 0 _ (a .1) in
-    let f = row-passed (onCard (d .tunnel) vs) 6 0 _ (b .1) in
+    let k = row-passed (ltb largestKind (d .kind)) 10 0 _ (b .1) in
+    let f = row-passed (onCard (d .tunnel) vs) 6 0 _ (k .1) in
     let g = row-passed (leb mostVcpus (length vs)) 8 0 _ (f .1) in
     let r = range-says (d .period) (d .capacity) (not-false (inRange (d .period) (d .capacity)) (b .0)) in
     record {
@@ -82,6 +83,7 @@ admits vs d e =
         period-high = r .1;
         capacity-low = r .2;
         capacity-high = r .3;
+        kind-high = omega (arith, tests, k .0);
       };
       not-there = f .0;
       room = leb-false mostVcpus (length vs) (g .0);
@@ -92,21 +94,33 @@ pub record Settled (c : Card) : Type 0 where
   pub runs-chosen : c .running ≡ runs (choose (c .vcpus))
   pub timer-set : c .timer ≡ timer (c .last) (c .vcpus) (choose (c .vcpus))
 
--- "while a VCPU runs, the timer is at most `last` + its usable ticks": an accepted call comes in time
-pub in-time : (c : Card) (now : ℕ) → Settled c → ((t : ℕ) → count (named t) (c .vcpus) ≤ 1) → ((t : ℕ) → c .timer ≡ some t → now ≤ t)
-    → All (λ v. holds (v .terms .tunnel) (c .running) ≡ true → now ≤ c .last + v .usable) (c .vcpus)
-in-time c now s once late = among-all _ (c .vcpus) (λ v m h. go v m (choose (c .vcpus)) refl (rw (s .runs-chosen) at h))
+-- the VCPU that runs has the card's timer
+its-timer : (c : Card) → Settled c → ((t : ℕ) → count (named t) (c .vcpus) ≤ 1) → (v : Vcpu) → Among v (c .vcpus)
+    → holds (v .terms .tunnel) (c .running) ≡ true → (t : ℕ) × (c .timer ≡ some t) × TimerWhile (c .last) (c .vcpus) v t
+its-timer c s once v m h = go (choose (c .vcpus)) refl (rw (s .runs-chosen) at h)
   where
-    go : (v : Vcpu) → Among v (c .vcpus) → (o : Option Vcpu) → choose (c .vcpus) ≡ o → holds (v .terms .tunnel) (runs o) ≡ true
-        → now ≤ c .last + v .usable
-    go v m none e h = clash (sym h)
-    go v m (some w) e h =
+    go : (o : Option Vcpu) → choose (c .vcpus) ≡ o → holds (v .terms .tunnel) (runs o) ≡ true
+        → (t : ℕ) × (c .timer ≡ some t) × TimerWhile (c .last) (c .vcpus) v t
+    go none e h = clash (sym h)
+    go (some w) e h =
         let f = chosen (c .vcpus) w e in
         let r = while-running (c .last) (c .vcpus) w in
         let q : v ≡ w = only-one (named (w .terms .tunnel)) (c .vcpus) (once (w .terms .tunnel)) v w m (f .on-card) h (named-itself w) in
         let t : c .timer ≡ some (r .0) = s .timer-set ∙ ap (timer (c .last) (c .vcpus)) e ∙ r .1 in
-        let l : now ≤ c .last + w .usable = omega (arith, late (r .0) t, r .2 .in-time) in
-        subst (λ (x : Vcpu). now ≤ c .last + x .usable) (sym q) l
+        (r .0, t, subst (λ (x : Vcpu). TimerWhile (c .last) (c .vcpus) x (r .0)) (sym q) (r .2))
+
+-- "while a VCPU runs, the timer is at most `last` + its usable ticks": an accepted call comes in time
+pub in-time : (c : Card) (now : ℕ) → Settled c → ((t : ℕ) → count (named t) (c .vcpus) ≤ 1) → ((t : ℕ) → c .timer ≡ some t → now ≤ t)
+    → All (λ v. holds (v .terms .tunnel) (c .running) ≡ true → now ≤ c .last + v .usable) (c .vcpus)
+in-time c now s once late =
+    among-all _ (c .vcpus) (λ v m h. let r = its-timer c s once v m h in omega (arith, late (r .0) (r .1), r .2 .in-time))
+
+-- .. and at or before the next boundary of the VCPU that runs
+pub own-boundary : (c : Card) (now : ℕ) → Settled c → ((t : ℕ) → count (named t) (c .vcpus) ≤ 1)
+    → ((t : ℕ) → c .timer ≡ some t → now ≤ t)
+    → All (λ v. holds (v .terms .tunnel) (c .running) ≡ true → (b : ℕ) → v .boundary ≡ some b → now ≤ b) (c .vcpus)
+own-boundary c now s once late =
+    among-all _ (c .vcpus) (λ v m h b e. let r = its-timer c s once v m h in omega (arith, late (r .0) (r .1), r .2 .before-own b e))
 
 -- nobody runs who is not on the card
 pub runs-on-card : (c : Card) → Settled c → (t : ℕ) → c .running ≡ some t → OnTheCard (c .vcpus) t

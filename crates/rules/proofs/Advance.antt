@@ -26,19 +26,22 @@ use Rattle.rules.specs.Slices.{slices, everFolds}
 use Rattle.rules.specs.Demand3.{hasToFold, foldsAt}
 use Rattle.rules.proofs.Tests.{tests, cases, and-true, and-right, and-one, or-none}
 use Rattle.rules.proofs.Named.{named-says, is-named}
+use Rattle.rules.proofs.ThreeKinds.{terms-returned, runnable-returned, returned-none}
 use Rattle.rules.proofs.Lists.{all-imp, all-both, all-every, all-map-both, all-map-among, all-among, among-all, any-same, any-only}
 use Rattle.rules.proofs.Lists.{some-one, count-same, count-among, count-none, length-ticks}
 use Rattle.rules.proofs.Slices.{slices-idle}
-use Rattle.rules.proofs.Queue.{Rising}
-use Rattle.rules.proofs.Sound.{Sound, kept-charged, sound-returned}
+use Rattle.rules.proofs.Sound.{Orderly, Sound, orderly-later, kept-charged, sound-returned}
 use Rattle.rules.proofs.Tied.{Tied, tied-return, tied-idle, tied-charged, within-charged, folds-there}
 use Rattle.rules.proofs.Window.{Within, within-idle}
 use Rattle.rules.proofs.Held.{Dated, length-held, owns-now, held-more, each-more}
 use Rattle.rules.proofs.Lawful.{Pair, Paired, Bounded, Lawful}
 
--- what steps 1 and 2 do to one VCPU
+-- what step 1, and steps 1 and 2, do to one VCPU
+abbrev pub chargedIf : ℕ → ℕ → Option ℕ → Vcpu → Vcpu
+chargedIf last now running v = cond (holds (v .terms .tunnel) running) (charged last now v) v
+
 abbrev pub stepped : ℕ → ℕ → Option ℕ → Vcpu → Vcpu
-stepped last now running v = returned now (cond (holds (v .terms .tunnel) running) (charged last now v) v)
+stepped last now running v = returned now (chargedIf last now running v)
 
 pub each-stepped : (c : Card) (now : ℕ) → afterReturn c now ≡ map (stepped (c .last) now (c .running)) (c .vcpus)
 each-stepped c now = go (c .running) (c .vcpus)
@@ -57,7 +60,7 @@ terms-charged last now v = go (noTicks last now)
     go false = refl
 
 pub terms-stepped : (last now : ℕ) (o : Option ℕ) (v : Vcpu) → stepped last now o v .terms ≡ v .terms
-terms-stepped last now o v = go (holds (v .terms .tunnel) o)
+terms-stepped last now o v = terms-returned now (chargedIf last now o v) ∙ go (holds (v .terms .tunnel) o)
   where
     go : (b : Bool) → cond b (charged last now v) v .terms ≡ v .terms
     go true = terms-charged last now v
@@ -65,7 +68,7 @@ terms-stepped last now o v = go (holds (v .terms .tunnel) o)
 
 pub runnable-stepped : (last now : ℕ) (o : Option ℕ) (v : Vcpu) → stepped last now o v .runnable ≡ v .runnable
 unfolding charged
-runnable-stepped last now o v = go (holds (v .terms .tunnel) o) (noTicks last now)
+runnable-stepped last now o v = runnable-returned now (chargedIf last now o v) ∙ go (holds (v .terms .tunnel) o) (noTicks last now)
   where
     go : (b n : Bool) → cond b (cond n v (chargedSome last now v)) v .runnable ≡ v .runnable
     go true true = refl
@@ -123,7 +126,7 @@ module _ (c : Card) (d : ℕ) (ss : List Stay) (h : List (Option ℕ)) (l : Lawf
       waited e =
           rw e
           (sound-returned (suc (c .last)) (c .last + v .terms .period) (c .last + d) v (omega arith)
-          (record { range = s .range; whole = s .whole; order = s .order; few = s .few; used = omega (arith, s .used) }))
+          (orderly-later (suc (c .last)) (c .last + v .terms .period) (c .last) (c .last + d) v (omega arith) s))
 
   -- the ticks of a stay that lasts: all d, or none
   held-step : (s : Stay) (b : Bool) → Dated (c .last) s → lasts (s .until) ≡ true → holds (s .terms .tunnel) (c .running) ≡ b
@@ -133,15 +136,24 @@ module _ (c : Card) (d : ℕ) (ss : List Stay) (h : List (Option ℕ)) (l : Lawf
       ∙ ap (λ (x : Bool). ticks d x (held s h)) (rw (u, e))
 
   -- a VCPU before its return, and what ties it to its stay
-  pair-return : (s : Stay) (b : Bool) (w : Vcpu) (low high : ℕ) → w .terms ≡ s .terms → Rising low high (w .pending)
+  pair-return : (s : Stay) (b : Bool) (w : Vcpu) (low high : ℕ) → w .terms ≡ s .terms → Orderly low high (c .last + d) w
       → held s (ticks d (c .running) h) ≡ ticks d b (held s h)
-      → Tied (w .terms .period) (c .last + d) (w .ended) (w .pending) (ticks d b (held s h))
+      → (w .terms .kind ≡ 0 → Tied (w .terms .period) (c .last + d) (w .ended) (w .pending) (ticks d b (held s h)))
       → Pair (c .last + d) s (returned (c .last + d) w) (ticks d (c .running) h)
-  pair-return s b w low high e r g t =
+  pair-return s b w low high e k g t =
       record {
-        same-terms = e;
-        tied = rw g (tied-return (w .terms .period) (c .last + d) (w .ended) low high (w .pending) (ticks d b (held s h)) r t);
+        same-terms = terms-returned (c .last + d) w ∙ e;
+        tied = λ i. back (ap (λ x. x .kind) (sym (terms-returned (c .last + d) w)) ∙ i);
       }
+    where
+      TiedTo : Vcpu → Type 0
+      TiedTo v = Tied (v .terms .period) (c .last + d) (v .ended) (v .pending) (held s (ticks d (c .running) h))
+
+      back : w .terms .kind ≡ 0 → TiedTo (returned (c .last + d) w)
+      back i =
+          subst TiedTo (sym (returned-none (c .last + d) w (k .sporadic i .0)))
+          (rw g
+          (tied-return (w .terms .period) (c .last + d) (w .ended) low high (w .pending) (ticks d b (held s h)) (k .order) (t i)))
 
   pair-step : (s : Stay) (v : Vcpu) → Dated (c .last) s → lasts (s .until) ≡ true → Among v (c .vcpus)
       → v .terms .tunnel ≡ s .terms .tunnel
@@ -162,18 +174,19 @@ module _ (c : Card) (d : ℕ) (ss : List Stay) (h : List (Option ℕ)) (l : Lawf
           let tw : charged (c .last) (c .last + d) v .terms ≡ v .terms = terms-charged (c .last) (c .last + d) v in
           rw r
           (pair-return s true (charged (c .last) (c .last + d) v)
-          (suc (c .last)) (c .last + v .terms .period) (tw ∙ p .same-terms) (kept-charged (c .last) d v k sv .order)
+          (suc (c .last)) (c .last + v .terms .period) (tw ∙ p .same-terms) (kept-charged (c .last) d v k sv)
           (held-step s true g u r′)
-          (rw tw (tied-charged (c .last) d v (held s h) n sv k (p .tied))))
+          (rw tw (λ i. tied-charged (c .last) d v (held s h) i n sv k (p .tied i))))
 
       waited : holds (v .terms .tunnel) (c .running) ≡ false
           → Pair (c .last + d) s (stepped (c .last) (c .last + d) (c .running) v) (ticks d (c .running) h)
       waited r =
           let r′ : holds (s .terms .tunnel) (c .running) ≡ false = subst (λ (t : ℕ). holds t (c .running) ≡ false) e r in
           rw r
-          (pair-return s false v (suc (c .last)) (c .last + v .terms .period) (p .same-terms) (sv .order)
+          (pair-return s false v (suc (c .last)) (c .last + v .terms .period) (p .same-terms)
+          (orderly-later (suc (c .last)) (c .last + v .terms .period) (c .last) (c .last + d) v (omega arith) sv)
           (held-step s false g u r′)
-          (tied-idle (v .terms .period) (c .last) d (v .ended) (v .pending) (held s h) n (sv .used) (p .tied)))
+          (λ i. tied-idle (v .terms .period) (c .last) d (v .ended) (v .pending) (held s h) n (sv .used) (p .tied i)))
 
   paired-step : (s : Stay) → Dated (c .last) s → Paired (c .last) (c .vcpus) h s
       → Paired (c .last + d) (map step (c .vcpus)) (ticks d (c .running) h) s
@@ -186,7 +199,7 @@ module _ (c : Card) (d : ℕ) (ss : List Stay) (h : List (Option ℕ)) (l : Lawf
       same v e = ap (λ x. x .tunnel) (sym (terms-stepped (c .last) (c .last + d) (c .running) v)) ∙ e
 
   -- the VCPU of a stay that lasts
-  its-vcpu : (s : Stay) → Among s ss → lasts (s .until) ≡ true → OnTheCard (c .vcpus) (s .terms .tunnel)
+  pub its-vcpu : (s : Stay) → Among s ss → lasts (s .until) ≡ true → OnTheCard (c .vcpus) (s .terms .tunnel)
   its-vcpu s m u =
       let k : 1 ≤ count (named (s .terms .tunnel)) (c .vcpus) =
       omega (
@@ -213,34 +226,42 @@ module _ (c : Card) (d : ℕ) (ss : List Stay) (h : List (Option ℕ)) (l : Lawf
   its-sound : (s : Stay) (m : Among s ss) (u : lasts (s .until) ≡ true) → Sound (c .last) (its-vcpu s m u .0)
   its-sound s m u = all-among (Sound (c .last)) (c .vcpus) (l .sound) (its-vcpu s m u .0) (its-vcpu s m u .1)
 
+  -- the VCPU of a sporadic stay is tied to it
+  its-tied : (s : Stay) (m : Among s ss) (u : lasts (s .until) ≡ true) → s .terms .kind ≡ 0
+      → let v = its-vcpu s m u .0 in Tied (v .terms .period) (c .last) (v .ended) (v .pending) (held s h)
+  its-tied s m u i = let p = its-pair s m u in p .tied (ap (λ x. x .kind) (p .same-terms) ∙ i)
+
   bounded-step : (s : Stay) → Among s ss → Bounded h s → Bounded (ticks d (c .running) h) s
-  bounded-step s m w = ⊎-elim here gone (cases (lasts (s .until)))
+  bounded-step s m w i = ⊎-elim here gone (cases (lasts (s .until)))
     where
+      Kept : Type 0
+      Kept = Within (s .terms .period) (s .terms .capacity) (held s (ticks d (c .running) h))
+
       g : Dated (c .last) s
       g = all-among (Dated (c .last)) ss (l .dated) s m
 
-      gone : lasts (s .until) ≡ false → Bounded (ticks d (c .running) h) s
+      gone : lasts (s .until) ≡ false → Kept
       gone u =
           rw (held-more s (c .running) (c .last) d h g (omega (arith, l .long)), u)
-          (within-idle (s .terms .period) (s .terms .capacity) d (held s h) w)
+          (within-idle (s .terms .period) (s .terms .capacity) d (held s h) (w i))
 
-      here : lasts (s .until) ≡ true → Bounded (ticks d (c .running) h) s
+      here : lasts (s .until) ≡ true → Kept
       here u = ⊎-elim ran waited (cases (holds (s .terms .tunnel) (c .running)))
         where
-          waited : holds (s .terms .tunnel) (c .running) ≡ false → Bounded (ticks d (c .running) h) s
-          waited r = rw (held-step s false g u r) (within-idle (s .terms .period) (s .terms .capacity) d (held s h) w)
+          waited : holds (s .terms .tunnel) (c .running) ≡ false → Kept
+          waited r = rw (held-step s false g u r) (within-idle (s .terms .period) (s .terms .capacity) d (held s h) (w i))
 
-          ran : holds (s .terms .tunnel) (c .running) ≡ true → Bounded (ticks d (c .running) h) s
+          ran : holds (s .terms .tunnel) (c .running) ≡ true → Kept
           ran r =
               rw (held-step s true g u r)
               (subst (λ x. Within (x .period) (x .capacity) (held s h) → Within (x .period) (x .capacity) (ticks d true (held s h)))
               (its-pair s m u .same-terms)
               (within-charged (c .last) d (its-vcpu s m u .0) (held s h) (length-held s h ∙ l .long)
-              (its-sound s m u) (its-pace s m u r) (its-pair s m u .tied)) w)
+              (its-sound s m u) (its-pace s m u r) (its-tied s m u i)) (w i))
 
-  -- what the history says of folding grows by what the call does to the queue
-  pub folded-step : (s : Stay) → Among s ss → says s (ticks d (c .running) h) ≡ says s h || foldsAt c (c .last + d) s
-  folded-step s m = go (ltb (c .last) (c .last + d)) refl (owns s (c .running) (c .last)) refl
+  -- what the history says of a sporadic stay's folding grows by what the call does to the queue
+  pub folded-step : (s : Stay) → Among s ss → s .terms .kind ≡ 0 → says s (ticks d (c .running) h) ≡ says s h || foldsAt c (c .last + d) s
+  folded-step s m i = go (ltb (c .last) (c .last + d)) refl (owns s (c .running) (c .last)) refl
     where
       g : Dated (c .last) s
       g = all-among (Dated (c .last)) ss (l .dated) s m
@@ -266,7 +287,7 @@ module _ (c : Card) (d : ℕ) (ss : List Stay) (h : List (Option ℕ)) (l : Lawf
           (subst (λ x. everFolds (x .period) (slices (x .period) (ticks d true (held s h)))
           ≡ everFolds (x .period) (slices (x .period) (held s h)) || folds (c .last) (v .0)) (its-pair s m u .same-terms)
           (folds-there (c .last) d (v .0) (held s h) (length-held s h ∙ l .long)
-          (its-sound s m u) (its-pace s m u r) (its-pair s m u .tied) k))
+          (its-sound s m u) (its-pace s m u r) (its-tied s m u i) k))
 
       go : (n : Bool) → ltb (c .last) (c .last + d) ≡ n → (o : Bool) → owns s (c .running) (c .last) ≡ o
           → says s (ticks d (c .running) h)

@@ -26,8 +26,8 @@ no′ number detail = refused (record { number = number; detail = detail })
 
 pub case :
     replies empty
-    (at 0 (admit (record { tunnel = 65793; period = 10; capacity = 3; priority = 1 }))
-    ∷ at 0 (admit (record { tunnel = 257; period = 8; capacity = 8; priority = 2 }))
+    (at 0 (admit (record { tunnel = 65793; period = 10; capacity = 3; priority = 1; kind = 0 }))
+    ∷ at 0 (admit (record { tunnel = 257; period = 8; capacity = 8; priority = 2; kind = 0 }))
     ∷ at 0 (wake 65793)
     ∷ at 0 (wake 257)
     ∷ at 3 tick
@@ -49,17 +49,22 @@ pub case :
 unfolding turn refusal settled timer moreUrgent charged posted
 case = refl
 
--- "Tick times 0 to 1,000,000,000,000", "0 to 16,777,215", "1 to 1,000,000", "1 to T"
+-- "Tick times 0 to 1,000,000,000,000", "0 to 16,777,215", "1 to 1,000,000", "1 to T"; and the kinds 0 to 2, with row 10
+-- after 4 and 5 and before 6
 pub limits :
     replies empty
     (at 1_000_000_000_001 tick
-    ∷ at 0 (admit (record { tunnel = 16_777_216; period = 10; capacity = 3; priority = 1 }))
-    ∷ at 0 (admit (record { tunnel = 1; period = 1_000_001; capacity = 1; priority = 1 }))
-    ∷ at 0 (admit (record { tunnel = 1; period = 1_000_000; capacity = 1_000_001; priority = 1 }))
-    ∷ at 0 (admit (record { tunnel = 1; period = 0; capacity = 0; priority = 1 }))
-    ∷ at 0 (admit (record { tunnel = 1; period = 1; capacity = 0; priority = 1 }))
-    ∷ at 0 (admit (record { tunnel = 16_777_215; period = 1_000_000; capacity = 1_000_000; priority = 255 }))
-    ∷ at 0 (admit (record { tunnel = 0; period = 1; capacity = 1; priority = 0 }))
+    ∷ at 0 (admit (record { tunnel = 16_777_216; period = 10; capacity = 3; priority = 1; kind = 0 }))
+    ∷ at 0 (admit (record { tunnel = 1; period = 1_000_001; capacity = 1; priority = 1; kind = 0 }))
+    ∷ at 0 (admit (record { tunnel = 1; period = 1_000_000; capacity = 1_000_001; priority = 1; kind = 0 }))
+    ∷ at 0 (admit (record { tunnel = 1; period = 0; capacity = 0; priority = 1; kind = 0 }))
+    ∷ at 0 (admit (record { tunnel = 1; period = 1; capacity = 0; priority = 1; kind = 0 }))
+    ∷ at 0 (admit (record { tunnel = 16_777_216; period = 10; capacity = 3; priority = 1; kind = 3 }))
+    ∷ at 0 (admit (record { tunnel = 1; period = 0; capacity = 0; priority = 1; kind = 3 }))
+    ∷ at 0 (admit (record { tunnel = 1; period = 10; capacity = 3; priority = 1; kind = 3 }))
+    ∷ at 0 (admit (record { tunnel = 16_777_215; period = 1_000_000; capacity = 1_000_000; priority = 255; kind = 0 }))
+    ∷ at 0 (admit (record { tunnel = 0; period = 1; capacity = 1; priority = 0; kind = 2 }))
+    ∷ at 0 (admit (record { tunnel = 0; period = 1; capacity = 1; priority = 0; kind = 3 }))
     ∷ at 1_000_000_000_000 tick
     ∷ [])
     ≡ no′ 1 0
@@ -68,8 +73,12 @@ pub limits :
     ∷ no′ 5 0
     ∷ no′ 5 0
     ∷ no′ 5 0
+    ∷ no′ 4 0
+    ∷ no′ 5 0
+    ∷ no′ 10 0
     ∷ says 0 none 0 none
     ∷ says 0 none 0 none
+    ∷ no′ 10 0
     ∷ says 1_000_000_000_000 none 0 none
     ∷ []
 unfolding turn refusal settled timer moreUrgent charged posted
@@ -77,10 +86,10 @@ limits = refl
 
 -- "up to 32 VCPUs": one more has a place beside 31 others, and none beside 32
 abbrev others : ℕ → List Vcpu
-others n = ticks n (admitted (record { tunnel = 1; period = 10; capacity = 3; priority = 1 })) []
+others n = ticks n (admitted 0 (record { tunnel = 1; period = 10; capacity = 3; priority = 1; kind = 0 })) []
 
 abbrev newcomer : Description
-newcomer = record { tunnel = 2; period = 10; capacity = 3; priority = 1 }
+newcomer = record { tunnel = 2; period = 10; capacity = 3; priority = 1; kind = 0 }
 
 pub room : (admitRows (others 31) newcomer ≡ none) × (admitRows (others 32) newcomer ≡ some (record { number = 8; detail = 0 }))
 room = (refl, refl)

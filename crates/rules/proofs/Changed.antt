@@ -85,7 +85,7 @@ length-keep test (v ∷ vs) = go (test v) (length-keep test vs)
     go false k = omega arith
 
 module _ (now : ℕ) (vs : List Vcpu) (ss : List Stay) (h : List (Option ℕ)) (l : Lawful now vs ss h) where
-  -- wake, block: only the mark `runnable` moves
+  -- wake, block: only the mark `runnable` moves, and the usable ticks of a polling VCPU
   marked : (t : ℕ) (b : Bool) → Lawful now (toNamed t (setRunnable b) vs) ss h
   marked t b =
       record {
@@ -123,7 +123,7 @@ module _ (now : ℕ) (vs : List Vcpu) (ss : List Stay) (h : List (Option ℕ)) (
     nobody-so-named : count (named (d .tunnel)) vs ≡ 0
     nobody-so-named = count-none (named (d .tunnel)) vs (any-false (named (d .tunnel)) vs (a .not-there))
 
-    no-stay-so-named : (s : Stay) → Among s ss → lasts (s .until) ≡ true → s .terms .tunnel ≡ d .tunnel → ⊥
+    pub no-stay-so-named : (s : Stay) → Among s ss → lasts (s .until) ≡ true → s .terms .tunnel ≡ d .tunnel → ⊥
     no-stay-so-named s m u e =
         omega (
           arith,
@@ -136,11 +136,11 @@ module _ (now : ℕ) (vs : List Vcpu) (ss : List Stay) (h : List (Option ℕ)) (
     held-nothing : held newStay h ≡ ticks (length h) false []
     held-nothing = held-new newStay h (omega (arith, l .long))
 
-    new-pair : Pair now newStay (admitted d) h
+    new-pair : Pair now newStay (admitted now d) h
     new-pair =
         record {
           same-terms = refl;
-          tied = rw held-nothing
+          tied = λ i. rw held-nothing
               (record {
                 at-most = λ x k. omega (arith, begun-idle (d .period) x (length h) [], begun-none (d .period) x);
                 one-for-one = λ f. sym (ap (λ ss. returnsOf (d .period) (recent (d .period) now ss))
@@ -154,24 +154,24 @@ module _ (now : ℕ) (vs : List Vcpu) (ss : List Stay) (h : List (Option ℕ)) (
         none-going zero = going-gap (d .period) 0 [] refl
         none-going (suc n) = going-gap (d .period) 0 (false ∷ ticks n false []) refl
 
-    admitted-lawful : Lawful now (placed (admitted d) vs) (newStay ∷ ss) h
+    admitted-lawful : Lawful now (placed (admitted now d) vs) (newStay ∷ ss) h
     admitted-lawful =
         record {
-          sound = all-placed (Sound now) (admitted d) vs (sound-admitted now d (a .range)) (l .sound);
-          once = λ t. omega (arith, count-placed (named t) (admitted d) vs, at-most-one t);
-          few = omega (arith, length-placed (admitted d) vs, a .room);
+          sound = all-placed (Sound now) (admitted now d) vs (sound-admitted now d (a .range)) (l .sound);
+          once = λ t. omega (arith, count-placed (named t) (admitted now d) vs, at-most-one t);
+          few = omega (arith, length-placed (admitted now d) vs, a .room);
           long = l .long;
-          on-card = λ t. omega (arith, count-placed (named t) (admitted d) vs, l .on-card t);
+          on-card = λ t. omega (arith, count-placed (named t) (admitted now d) vs, l .on-card t);
           dated = (record { began = omega arith; over = λ r e. no-some e }, l .dated);
           paired = (
-            λ u. all-placed (λ v. v .terms .tunnel ≡ d .tunnel → Pair now newStay v h) (admitted d) vs (λ e. new-pair)
+            λ u. all-placed (λ v. v .terms .tunnel ≡ d .tunnel → Pair now newStay v h) (admitted now d) vs (λ e. new-pair)
                 (all-imp (λ v n e. clash (sym (is-named (d .tunnel) v e) ∙ n)) vs (any-false (named (d .tunnel)) vs (a .not-there))),
-            among-all (Paired now (placed (admitted d) vs) h) ss
-                (λ s m u. all-placed (λ v. v .terms .tunnel ≡ s .terms .tunnel → Pair now s v h) (admitted d) vs
+            among-all (Paired now (placed (admitted now d) vs) h) ss
+                (λ s m u. all-placed (λ v. v .terms .tunnel ≡ s .terms .tunnel → Pair now s v h) (admitted now d) vs
                 (λ e. absurd (no-stay-so-named s m u (sym e))) (all-among (Paired now vs h) ss (l .paired) s m u)),
           );
           bounded = (
-            rw held-nothing (within-idle (d .period) (d .capacity) (length h) []
+            λ i. rw held-nothing (within-idle (d .period) (d .capacity) (length h) []
                 (within-none (d .period) (d .capacity))),
             l .bounded,
           );
@@ -265,7 +265,7 @@ module _ (now : ℕ) (vs : List Vcpu) (ss : List Stay) (h : List (Option ℕ)) (
           on-card = λ u. count-ended u ss ∙ ap (cond (eqb u t) 0) (l .on-card u) ∙ sym (count-left u vs);
           dated = all-map (Dated now) (withEnd now t) over-by-now ss (l .dated);
           paired = all-map (Paired now (keep other vs) h) (withEnd now t) left-paired ss (l .paired);
-          bounded = all-map (Bounded h) (withEnd now t) (λ s w. rw (held-end now t s h (omega (arith, l .long))) w) ss (l .bounded);
+          bounded = all-map (Bounded h) (withEnd now t) (λ s w i. rw (held-end now t s h (omega (arith, l .long))) (w i)) ss (l .bounded);
           owned = each-imp (λ o n. owners ss o n ≡ 1) (λ o n. owners (map (withEnd now t) ss) o n ≡ 1) h
               (λ o n k e. ap (λ (x : ℕ). cond (isIdle o) 1 0 + x) (as-many o n (omega (arith, l .long))) ∙ e) (l .owned);
         }
@@ -286,12 +286,11 @@ module _ (now : ℕ) (vs : List Vcpu) (ss : List Stay) (h : List (Option ℕ)) (
             all-keep (λ v. v .terms .tunnel ≡ s .terms .tunnel → Pair now (withEnd now t s) v h) other vs
             (all-imp (λ v q e. record {
               same-terms = q e .same-terms;
-              tied = rw (held-end now t s h (omega (arith, l .long)))
-                  (q e .tied);
+              tied = λ i. rw (held-end now t s h (omega (arith, l .long))) (q e .tied i);
             }) vs
             (p (goes-on s u .0)))
 
-  pub changed : (asked : Change) → callRows vs asked ≡ none → Lawful now (change asked vs) (changeStays now asked ss) h
+  pub changed : (asked : Change) → callRows vs asked ≡ none → Lawful now (change now asked vs) (changeStays now asked ss) h
   changed (admit d) e = admitted-lawful d (admits vs d e)
   changed (wake t) e = marked t true
   changed (block t) e = marked t false

@@ -36,11 +36,14 @@ figuresOf calls =
     map (λ s. figures (s .from) (s .until) (everFolds (s .terms .period) (slicesOf (heard calls) s))
     (heldTicks (window (s .terms .period) 0 (held s (past (heard calls))))) (ticksOf (recentOf (heard calls) s))) (stays (heard calls))
 
-abbrev usableTicks : List Call → List ℕ
+abbrev pub usableTicks : List Call → List ℕ
 usableTicks calls = map (λ v. v .usable) (after calls .vcpus)
 
+abbrev pub server : ℕ → ℕ → ℕ → Description
+server kind period capacity = record { tunnel = 2; period = period; capacity = capacity; priority = 2; kind = kind }
+
 abbrev tenant : ℕ → ℕ → Description
-tenant period capacity = record { tunnel = 2; period = period; capacity = capacity; priority = 2 }
+tenant = server 0
 
 -- T 10, C 3, from 0 to 3, asked at 10: the return is due one period after the slice's start. From its end, none would be usable.
 abbrev back : List Call
@@ -154,3 +157,45 @@ again-held = refl
 pub again-idle : idleTicks (past (heard again)) ≡ 4
 unfolding turn refusal settled timer moreUrgent charged posted
 again-idle = refl
+
+-- T 10, C 3, deferrable, woken at 7: its ticks are kept until then, and the boundary at 10 gives 3 more: 2C in a window of T, and no more
+-- usable until the next boundary.
+abbrev pub burst : ℕ → List Call
+burst kind = at 13 tick ∷ at 10 tick ∷ at 7 (wake 2) ∷ at 0 (admit (server kind 10 3)) ∷ []
+
+pub burst-held : figuresOf (burst 1) ≡ figures 0 none false 6 6 ∷ []
+unfolding turn refusal settled timer moreUrgent charged posted
+burst-held = refl
+
+abbrev pub boundaries : List Call → List (Option ℕ)
+boundaries calls = map (λ v. v .boundary) (after calls .vcpus)
+
+pub burst-next : (usableTicks (burst 1) ≡ 0 ∷ []) × (boundaries (burst 1) ≡ some 20 ∷ []) × (after (burst 1) .timer ≡ some 20)
+unfolding turn refusal settled timer moreUrgent charged posted
+burst-next = (refl, refl, refl)
+
+-- the same, polling: nothing is usable before the boundary, at which it is runnable. Refilled at its wake it would hold 6.
+pub polled-held : figuresOf (burst 2) ≡ figures 0 none false 3 3 ∷ []
+unfolding turn refusal settled timer moreUrgent charged posted
+polled-held = refl
+
+-- polling, blocked for a moment: its ticks are gone until the boundary at 20. A deferrable one has kept 2.
+abbrev pub pause : ℕ → List Call
+pause kind = at 12 (wake 2) ∷ at 11 (block 2) ∷ at 10 tick ∷ at 9 (wake 2) ∷ at 0 (admit (server kind 10 3)) ∷ []
+
+pub pause-usable : (usableTicks (pause 2) ≡ 0 ∷ []) × (usableTicks (pause 1) ≡ 2 ∷ [])
+unfolding turn refusal settled timer moreUrgent charged posted
+pause-usable = (refl, refl)
+
+-- one call passes two boundaries, at 10 and 20: one refill, to C, and the next boundary is that at 30. A polling one that is not runnable
+-- has none, and the wake at 21 comes too late for it.
+abbrev passing : ℕ → List Call
+passing kind = at 21 (wake 2) ∷ at 1 (block 2) ∷ at 0 (wake 2) ∷ at 0 (admit (server kind 10 3)) ∷ []
+
+pub passing-next : (boundaries (passing 1) ≡ some 30 ∷ []) × (boundaries (passing 2) ≡ some 30 ∷ []) × (boundaries (passing 0) ≡ none ∷ [])
+unfolding turn refusal settled timer moreUrgent charged posted
+passing-next = (refl, refl, refl)
+
+pub passing-usable : (usableTicks (passing 1) ≡ 3 ∷ []) × (usableTicks (passing 2) ≡ 0 ∷ [])
+unfolding turn refusal settled timer moreUrgent charged posted
+passing-usable = (refl, refl)

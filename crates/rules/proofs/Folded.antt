@@ -1,4 +1,4 @@
--- "Never had to fold", read off the history, is exactly what the queue on the card did: of every stay, after any calls.
+-- "Never had to fold", read off the history, is exactly what the queue on the card did: of every sporadic stay, after any calls.
 -- Assumes nothing.
 use mathlib.Core.Path.{_≡_, refl, ap, sym, _∙_}
 use mathlib.Core.Bool.{Bool, true, false, _&&_, _||_}
@@ -15,6 +15,7 @@ use Rattle.rules.specs.Card.{Card}
 use Rattle.rules.specs.Change.{Change, admit, wake, block, remove, tick}
 use Rattle.rules.specs.Refuse.{Refusal, refusal}
 use Rattle.rules.specs.Turn.{Call, settled}
+use Rattle.rules.specs.Meaning.{Sporadic}
 use Rattle.rules.specs.History.{after, heard, time, past, ticks}
 use Rattle.rules.specs.Stays.{Stay, changeStays, stays, withEnd, owns}
 use Rattle.rules.specs.Slices.{slices, everFolds}
@@ -75,11 +76,15 @@ folded-end [] now t s h = refl
 folded-end (call ∷ calls) now t s h =
     rw (folded-end calls now t s (omega (arith, never-back call calls)), folds-end (after calls) (after (call ∷ calls) .last) now t s h)
 
+-- of a sporadic stay the history says what the queue did
+abbrev Exactly : List Call → List (Option ℕ) → Stay → Type 0
+Exactly calls h s = Sporadic (s .terms) → says s h ≡ folded calls s
+
 -- the call's change begins a stay or ends one
 changed-exactly : (calls : List Call) (now : ℕ) (h : List (Option ℕ)) → after calls .last ≡ now → length h ≡ now
     → (asked : Change) (ss : List Stay)
-    → All (λ s. says s h ≡ folded calls s) ss → All (λ s. says s h ≡ folded calls s) (changeStays now asked ss)
-changed-exactly calls now h e n (admit d) ss a = (new (record { terms = d; from = now; until = none }) (omega arith), a)
+    → All (Exactly calls h) ss → All (Exactly calls h) (changeStays now asked ss)
+changed-exactly calls now h e n (admit d) ss a = (λ i. new (record { terms = d; from = now; until = none }) (omega arith), a)
   where
     new : (s : Stay) → now ≤ s .from → says s h ≡ folded calls s
     new s k =
@@ -89,9 +94,9 @@ changed-exactly calls now h e n (admit d) ss a = (new (record { terms = d; from 
 changed-exactly calls now h e n (wake t) ss a = a
 changed-exactly calls now h e n (block t) ss a = a
 changed-exactly calls now h e n (remove t) ss a =
-    all-map (λ s. says s h ≡ folded calls s) (withEnd now t)
-    (λ s q. ap (λ (b : List Bool). everFolds (s .terms .period) (slices (s .terms .period) b)) (held-end now t s h (omega arith))
-    ∙ q ∙ sym (folded-end calls now t s (omega arith))) ss a
+    all-map (Exactly calls h) (withEnd now t)
+    (λ s q i. ap (λ (b : List Bool). everFolds (s .terms .period) (slices (s .terms .period) b)) (held-end now t s h (omega arith))
+    ∙ q i ∙ sym (folded-end calls now t s (omega arith))) ss a
 changed-exactly calls now h e n tick ss a = a
 
 -- an accepted call: what its charge does, then what its change does
@@ -111,34 +116,35 @@ module _ (call : Call) (calls : List Call) (e : refusal (after calls) (call .now
   p : Passed c (call .now) (call .asked)
   p = passed c (call .now) (call .asked) e
 
-  charged-exactly : (s : Stay) → Among s ss → says s h ≡ folded calls s → says s (ticks d (c .running) h) ≡ folded (call ∷ calls) s
-  charged-exactly s m q =
+  charged-exactly : (s : Stay) → Among s ss → Exactly calls h s → Exactly (call ∷ calls) (ticks d (c .running) h) s
+  charged-exactly s m q i =
       let r = reached calls in
       let n : c .last + d ≡ after (call ∷ calls) .last = omega (arith, last-accepted call calls e, p .not-before) in
-      folded-step c d ss h (r .lawful) (pace c ss h r call p) (there c ss h r) s m
-      ∙ ap (λ (b : Bool). b || foldsAt c (c .last + d) s) q
+      folded-step c d ss h (r .lawful) (pace c ss h r call p) (there c ss h r) s m i
+      ∙ ap (λ (b : Bool). b || foldsAt c (c .last + d) s) (q i)
       ∙ ap (λ (k : ℕ). folded calls s || foldsAt c k s) n
 
-  accepted-exactly : All (λ s. says s h ≡ folded calls s) ss
-      → All (λ s. says s (ticks d (c .running) h) ≡ folded (call ∷ calls) s) (changeStays (call .now) (call .asked) ss)
+  accepted-exactly : All (Exactly calls h) ss
+      → All (Exactly (call ∷ calls) (ticks d (c .running) h)) (changeStays (call .now) (call .asked) ss)
   accepted-exactly a =
       changed-exactly (call ∷ calls) (call .now) (ticks d (c .running) h) (last-accepted call calls e)
       (omega (arith, length-ticks d (c .running) h, reached calls .lawful .long, p .not-before)) (call .asked) ss
-      (among-all _ ss (λ s m. charged-exactly s m (all-among (λ s. says s h ≡ folded calls s) ss a s m)))
+      (among-all _ ss (λ s m. charged-exactly s m (all-among (Exactly calls h) ss a s m)))
 
 pub folds-exactly : (calls : List Call)
-    → All (λ s. everFolds (s .terms .period) (slicesOf (heard calls) s) ≡ folded calls s) (stays (heard calls))
+    → All (λ s. Sporadic (s .terms) → everFolds (s .terms .period) (slicesOf (heard calls) s) ≡ folded calls s) (stays (heard calls))
 unfolding settled
 folds-exactly [] = tt
 folds-exactly (call ∷ calls) = go (refusal (after calls) (call .now) (call .asked)) refl (folds-exactly calls)
   where
     go : (o : Option Refusal) → refusal (after calls) (call .now) (call .asked) ≡ o
-        → All (λ s. says s (past (heard calls)) ≡ folded calls s) (stays (heard calls))
-        → All (λ s. says s (past (heard (call ∷ calls))) ≡ folded (call ∷ calls) s) (stays (heard (call ∷ calls)))
+        → All (Exactly calls (past (heard calls))) (stays (heard calls))
+        → All (λ s. Sporadic (s .terms) → says s (past (heard (call ∷ calls))) ≡ folded (call ∷ calls) s) (stays (heard (call ∷ calls)))
     go (some r) e ih =
         let z : time (heard calls) - time (heard calls) ≡ 0 = omega arith in
         rw (reply-refused (after calls) call r e, card-refused (after calls) call r e, z)
-        (all-imp (λ s q. q ∙ sym (or-none (folded calls s)) ∙ ap (λ (b : Bool). folded calls s || b) (sym (none-folds (after calls) s)))
+        (all-imp (λ s q i. q i ∙ sym (or-none (folded calls s))
+        ∙ ap (λ (b : Bool). folded calls s || b) (sym (none-folds (after calls) s)))
         (stays (heard calls)) ih)
     go none e ih =
         rw (reply-accepted (after calls) call e, told-by-card calls .0, told-by-card calls .1) (accepted-exactly call calls e ih)

@@ -27,6 +27,7 @@ chargedHead d v =
       usable = v .usable - d;
       ended = v .ended;
       pending = v .pending ++ record { due = v .ended + v .terms .period; amount = d } ∷ [];
+      boundary = v .boundary;
     }
 
 -- where none was usable, the first that returns is the new head
@@ -42,6 +43,7 @@ returnedHead now v =
       usable = v .usable + brought now (v .pending);
       ended = head now v (v .pending);
       pending = still now (v .pending);
+      boundary = v .boundary;
     }
 
 abbrev chargeHead : ℕ → Option ℕ → List Vcpu → List Vcpu
@@ -53,7 +55,7 @@ answerHead c call (some r) = record { reply = refused r; card = c }
 answerHead c call none =
     let d : Card =
     settled (call .now)
-    (change (call .asked) (map (returnedHead (call .now)) (chargeHead (call .now - c .last) (c .running) (c .vcpus)))) in
+    (change (call .now) (call .asked) (map (returnedHead (call .now)) (chargeHead (call .now - c .last) (c .running) (c .vcpus)))) in
     record { reply = ok (report d); card = d }
 
 abbrev turnHead : Card → Call → Answer
@@ -75,8 +77,8 @@ late =
     ∷ at 7 tick
     ∷ at 0 (wake 2)
     ∷ at 0 (wake 1)
-    ∷ at 0 (admit (record { tunnel = 2; period = 10; capacity = 3; priority = 2 }))
-    ∷ at 0 (admit (record { tunnel = 1; period = 20; capacity = 7; priority = 1 }))
+    ∷ at 0 (admit (record { tunnel = 2; period = 10; capacity = 3; priority = 2; kind = 0 }))
+    ∷ at 0 (admit (record { tunnel = 1; period = 20; capacity = 7; priority = 1; kind = 0 }))
     ∷ []
 
 pub twice : heldTicks (window 10 0 (map (λ o. holds 2 o) (past (heardHead late)))) ≡ 2 * 3

@@ -15,18 +15,19 @@ use Rattle.rules.proofs.Tied.{Tied}
 use Rattle.rules.proofs.Window.{Within}
 use Rattle.rules.proofs.Held.{Dated}
 
--- a VCPU and the stay that it lasts in
+-- a VCPU and the stay that it lasts in; a queue that tells of its ticks has only a sporadic one
 pub record Pair (last : ℕ) (s : Stay) (v : Vcpu) (h : List (Option ℕ)) : Type 0 where
   pub same-terms : v .terms ≡ s .terms
-  pub tied : Tied (v .terms .period) last (v .ended) (v .pending) (held s h)
+  pub tied : v .terms .kind ≡ 0 → Tied (v .terms .period) last (v .ended) (v .pending) (held s h)
 
 -- `s` is the stay of each VCPU on the card that has its identifier
 abbrev pub Paired : ℕ → List Vcpu → List (Option ℕ) → Stay → Type 0
 Paired last vs h s =
     lasts (s .until) ≡ true → All (λ v. v .terms .tunnel ≡ s .terms .tunnel → Pair last s v h) vs
 
+-- a sporadic stay
 abbrev pub Bounded : List (Option ℕ) → Stay → Type 0
-Bounded h s = Within (s .terms .period) (s .terms .capacity) (held s h)
+Bounded h s = s .terms .kind ≡ 0 → Within (s .terms .period) (s .terms .capacity) (held s h)
 
 pub record Lawful (last : ℕ) (vs : List Vcpu) (ss : List Stay) (h : List (Option ℕ)) : Type 0 where
   pub sound : All (Sound last) vs

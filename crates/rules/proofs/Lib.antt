@@ -1,6 +1,5 @@
--- The theorems about the rules (Demand3, Meaning, Rows, Marks, Budgets), computed examples (Case, Examples, HeadEntry), and the laws that
--- carry
--- them. Assumes nothing.
+-- The theorems about the rules (Demand3, Meaning, Rows, Marks, Budgets), computed examples (Case, Examples, HeadEntry, Bursts), and the
+-- laws that carry them. Assumes nothing.
 pub mod Demand3
 pub mod Meaning
 pub mod Rows
@@ -9,14 +8,17 @@ pub mod Budgets
 pub mod Case
 pub mod Examples
 pub mod HeadEntry
+pub mod Bursts
 pub mod Tests
 pub mod Lists
 pub mod Named
+pub mod ThreeKinds
 pub mod Urgency
 pub mod Choice
 pub mod Timer
 pub mod Slices
 pub mod Window
+pub mod Boundaries
 pub mod Queue
 pub mod Returns
 pub mod Sound
@@ -29,3 +31,5 @@ pub mod Changed
 pub mod Reached
 pub mod Folded
 pub mod Runnable
+pub mod Filled
+pub mod Refills

@@ -21,6 +21,7 @@ use Rattle.rules.specs.Marks.{RunnableThen, Newcomer, Marks}
 use Rattle.rules.proofs.Tests.{clash}
 use Rattle.rules.proofs.Named.{named-says, is-named, not-named, is-on-card}
 use Rattle.rules.proofs.Lists.{among-map, map-among, among-keep, keep-among, only-one}
+use Rattle.rules.proofs.ThreeKinds.{is-sporadic, not-sporadic, leaves-all, leaves-none}
 use Rattle.rules.proofs.Accepted.{passed, admits}
 use Rattle.rules.proofs.Advance.{stepped, each-stepped, terms-stepped, runnable-stepped}
 use Rattle.rules.proofs.Changed.{among-placed, placed-itself, placed-among}
@@ -80,6 +81,20 @@ marked-among t b vs u p =
     go : (x : Bool) → cond x (setRunnable b (p .0)) (p .0) .terms .tunnel ≡ u
     go true = p .2
     go false = p .2
+
+-- how an admitted one starts, by its kind
+newcomer : (now : ℕ) (d : Description) → Newcomer now d (admitted now d)
+newcomer now d =
+    record {
+      terms = refl;
+      not-runnable = refl;
+      all-usable = λ n. leaves-all d false (d .capacity) (λ e. absurd (n e));
+      none-usable = leaves-none d (d .capacity);
+      nothing-pending = refl;
+      no-earlier-use = refl;
+      no-boundary = λ e. rw (is-sporadic d e);
+      first-boundary = λ n. rw (not-sporadic d n);
+    }
 
 module _ (c : Card) (now : ℕ) (once : (t : ℕ) → count (named t) (c .vcpus) ≤ 1) where
   abbrev step : Vcpu → Vcpu
@@ -171,10 +186,10 @@ module _ (c : Card) (now : ℕ) (once : (t : ℕ) → count (named t) (c .vcpus)
     alone : (v : Vcpu) → Among v (afterReturn c now) → v .terms .tunnel ≡ d .tunnel → ⊥
     alone v m e = clash (sym (is-on-card (c .vcpus) (d .tunnel) (stays-there (d .tunnel) .0 (v, m, e))) ∙ free)
 
-    entered : (v : Vcpu) → Among v (placed (admitted d) (afterReturn c now)) → Mark (admit d) v
-    entered v m = go (among-placed (admitted d) (afterReturn c now) v m)
+    entered : (v : Vcpu) → Among v (placed (admitted now d) (afterReturn c now)) → Mark (admit d) v
+    entered v m = go (among-placed (admitted now d) (afterReturn c now) v m)
       where
-        go : (v ≡ admitted d) ⊎ Among v (afterReturn c now) → Mark (admit d) v
+        go : (v ≡ admitted now d) ⊎ Among v (afterReturn c now) → Mark (admit d) v
         go (inl e) = (
           λ r. clash (sym r ∙ ap (λ x. x .runnable) e),
           ⊎-elim (λ q. absurd (omega (arith, ap kind q))) (λ p. absurd (p .2 (d, refl, ap (λ x. x .terms .tunnel) (sym e)))),
@@ -183,22 +198,22 @@ module _ (c : Card) (now : ℕ) (once : (t : ℕ) → count (named t) (c .vcpus)
             kept (admit d) v k (λ e. omega (arith, ap kind e)) (λ e. omega (arith, ap kind e))
             (λ p. let q : d ≡ p .0 = cc in alone v k (sym (p .2) ∙ ap (λ x. x .tunnel) (sym q)))
 
-    starts-anew : (v : Vcpu) → Among v (placed (admitted d) (afterReturn c now)) → v .terms .tunnel ≡ d .tunnel → Newcomer d v
-    starts-anew v m e = go (among-placed (admitted d) (afterReturn c now) v m)
+    starts-anew : (v : Vcpu) → Among v (placed (admitted now d) (afterReturn c now)) → v .terms .tunnel ≡ d .tunnel → Newcomer now d v
+    starts-anew v m e = go (among-placed (admitted now d) (afterReturn c now) v m)
       where
-        go : (v ≡ admitted d) ⊎ Among v (afterReturn c now) → Newcomer d v
+        go : (v ≡ admitted now d) ⊎ Among v (afterReturn c now) → Newcomer now d v
         go (inl q) =
-            subst (λ (x : Vcpu). Newcomer d x) (sym q)
-            (record { terms = refl; not-runnable = refl; all-usable = refl; nothing-pending = refl; no-earlier-use = refl })
+            subst (λ (x : Vcpu). Newcomer now d x) (sym q) (newcomer now d)
         go (inr k) = absurd (alone v k e)
 
-    entered-there : (t : ℕ) → (AdmitOf (admit d) t → ⊥) → OnTheCard (placed (admitted d) (afterReturn c now)) t ↔ OnTheCard (c .vcpus) t
+    entered-there : (t : ℕ) → (AdmitOf (admit d) t → ⊥)
+        → OnTheCard (placed (admitted now d) (afterReturn c now)) t ↔ OnTheCard (c .vcpus) t
     entered-there t f = (
-      λ p. go p (among-placed (admitted d) (afterReturn c now) (p .0) (p .1)),
-      λ p. let q = stays-there t .1 p in (q .0, placed-among (admitted d) (afterReturn c now) (q .0) (q .1), q .2),
+      λ p. go p (among-placed (admitted now d) (afterReturn c now) (p .0) (p .1)),
+      λ p. let q = stays-there t .1 p in (q .0, placed-among (admitted now d) (afterReturn c now) (q .0) (q .1), q .2),
     )
       where
-        go : (p : OnTheCard (placed (admitted d) (afterReturn c now)) t) → (p .0 ≡ admitted d) ⊎ Among (p .0) (afterReturn c now)
+        go : (p : OnTheCard (placed (admitted now d) (afterReturn c now)) t) → (p .0 ≡ admitted now d) ⊎ Among (p .0) (afterReturn c now)
             → OnTheCard (c .vcpus) t
         go p (inl e) = absurd (f (d, refl, ap (λ x. x .terms .tunnel) (sym e) ∙ p .2))
         go p (inr k) = stays-there t .0 (p .0, k, p .2)
@@ -229,7 +244,7 @@ module _ (c : Card) (now : ℕ) (once : (t : ℕ) → count (named t) (c .vcpus)
 
   -- wake, block, tick: everybody stays
   all-stay : (asked : Change) (vs : List Vcpu) → 1 ≤ kind asked → (kind asked ≡ 3 → ⊥) → ((v : Vcpu) → Among v vs → Mark asked v)
-      → ((t : ℕ) → OnTheCard vs t ↔ OnTheCard (c .vcpus) t) → Marks (c .vcpus) asked vs
+      → ((t : ℕ) → OnTheCard vs t ↔ OnTheCard (c .vcpus) t) → Marks (c .vcpus) now asked vs
   all-stay asked vs f g m o =
       record {
         runnable = m;
@@ -239,15 +254,15 @@ module _ (c : Card) (now : ℕ) (once : (t : ℕ) → count (named t) (c .vcpus)
         others = λ t h k. o t;
       }
 
-  marks-of : (asked : Change) → callRows (c .vcpus) asked ≡ none → Marks (c .vcpus) asked (change asked (afterReturn c now))
+  marks-of : (asked : Change) → callRows (c .vcpus) asked ≡ none → Marks (c .vcpus) now asked (change now asked (afterReturn c now))
   marks-of (admit d) e =
       let free = admits (c .vcpus) d e .not-there in
       record {
         runnable = entered d free;
-        admits = λ x f. let q : d ≡ x = cc in (admitted d, placed-itself (admitted d) (afterReturn c now), ap (λ x. x .tunnel) q);
+        admits = λ x f. let q : d ≡ x = cc in (admitted now d, placed-itself (admitted now d) (afterReturn c now), ap (λ x. x .tunnel) q);
         starts = λ x f. let q : d ≡ x = cc in
             subst (λ (x : Description). (v : Vcpu) → Among v
-            (placed (admitted d) (afterReturn c now)) → v .terms .tunnel ≡ x .tunnel → Newcomer x v) q
+            (placed (admitted now d) (afterReturn c now)) → v .terms .tunnel ≡ x .tunnel → Newcomer now x v) q
             (starts-anew d free);
         removes = λ t f. absurd (omega (arith, ap kind f));
         others = λ t f g. entered-there d free t f;
@@ -268,10 +283,10 @@ module _ (c : Card) (now : ℕ) (once : (t : ℕ) → count (named t) (c .vcpus)
       (λ p. omega (arith, ap kind (p .1)))) stays-there
 
 pub marks : (calls : List Call) (call : Call) → NoRow (after calls) call
-    → Marks (after calls .vcpus) (call .asked) (after (call ∷ calls) .vcpus)
+    → Marks (after calls .vcpus) (call .now) (call .asked) (after (call ∷ calls) .vcpus)
 unfolding settled
 marks calls call h =
     let e = not-given (after calls) call h in
-    subst (λ (d : Card). Marks (after calls .vcpus) (call .asked) (d .vcpus)) (sym (card-accepted (after calls) call e))
+    subst (λ (d : Card). Marks (after calls .vcpus) (call .now) (call .asked) (d .vcpus)) (sym (card-accepted (after calls) call e))
     (marks-of (after calls) (call .now) (reached calls .lawful .once) (call .asked)
     (passed (after calls) (call .now) (call .asked) e .asked-for))

@@ -14,10 +14,11 @@ use Rattle.rules.specs.Lists.{count, All, Among}
 use Rattle.rules.specs.Vcpu.{Entry, Vcpu, named}
 use Rattle.rules.specs.Card.{Card, find}
 use Rattle.rules.specs.Choose.{ready, choose, runs, usableOf}
-use Rattle.rules.specs.Timer.{returns, earliest, runnable, timer}
+use Rattle.rules.specs.Timer.{earliest, nexts, runnable, timer}
 use Rattle.rules.specs.Refuse.{Refusal, refusal}
 use Rattle.rules.specs.Turn.{Call, turn, settled}
-use Rattle.rules.specs.Meaning.{MayRun, Returns, NoneBefore, Runnable, TimerWhile, Sorted, Meaning}
+use Rattle.rules.specs.Meaning.{MayRun, Comes, return, boundary, Next, NoneBefore, Runnable, TimerWhile, Sorted}
+use Rattle.rules.specs.Meaning.{Keeps, sporadic, refilled, Meaning}
 use Rattle.rules.specs.History.{after, heard, past}
 use Rattle.rules.specs.Stays.{stays}
 use Rattle.rules.proofs.Tests.{clash, no-some, cases}
@@ -26,6 +27,7 @@ use Rattle.rules.proofs.Lists.{all-imp, all-both, all-among, keeps-none
 use Rattle.rules.proofs.Choice.{chosen, idle, nobody, only, is-ready}
 use Rattle.rules.proofs.Timer.{in-idle, no-return, while-running}
 use Rattle.rules.proofs.Queue.{total, Rising}
+use Rattle.rules.proofs.ThreeKinds.{one-of-three, by-kind}
 use Rattle.rules.proofs.Sound.{Sound}
 use Rattle.rules.proofs.Accepted.{passed, Settled, runs-on-card}
 use Rattle.rules.proofs.Reached.{Reached, reached, card-refused, card-accepted}
@@ -80,6 +82,23 @@ rising-sorted : (low high : ℕ) (q : List Entry) → Rising low high q → Sort
 rising-sorted low high [] r = tt
 rising-sorted low high (e ∷ q) r = (rising-all (e .due) high q (r .2), rising-sorted (e .due) high q (r .2))
 
+-- a VCPU without usable ticks has something to come: of a sporadic one all of its C ticks are pending, the others have a boundary
+comes-again : (last : ℕ) (v : Vcpu) → Sound last v → v .usable ≡ 0 → ((u : ℕ) → Comes v u → ⊥) → ⊥
+comes-again last v k z n = by-kind (v .terms) (λ e. pends (v .pending) refl (k .sporadic e .1)) (λ e. bounded (k .refills e))
+  where
+    pends : (q : List Entry) → v .pending ≡ q → v .usable + total q ≡ v .terms .capacity → ⊥
+    pends [] e w = omega (arith, k .range .capacity-low)
+    pends (a ∷ q) e w = n (a .due) (return a (rw e (inl refl)))
+
+    bounded : (v .pending ≡ []) × (v .ended ≡ 0) × (b : ℕ) × (v .boundary ≡ some b) × (suc last ≤ b) × (b ≤ last + v .terms .period) → ⊥
+    bounded p = n (p .2) (boundary (p .2) (p .3))
+
+keeps-so : (last : ℕ) (v : Vcpu) → Sound last v → Keeps last v
+keeps-so last v k =
+    by-kind (v .terms) (λ e. sporadic e (k .sporadic e .0) (k .sporadic e .1))
+    (λ n. let p = k .refills n in
+    refilled n (p .2) (p .3) (omega (arith, p .4)) (p .5) (p .0) (p .1) (omega (arith, k .most)))
+
 module _ (c : Card) (s : Settled c) (once : (t : ℕ) → count (named t) (c .vcpus) ≤ 1) (sound : All (Sound (c .last)) (c .vcpus)) where
   same-one : (v w : Vcpu) → Among v (c .vcpus) → Among w (c .vcpus) → v .terms .tunnel ≡ w .terms .tunnel → v ≡ w
   same-one v w m n e =
@@ -117,31 +136,29 @@ module _ (c : Card) (s : Settled c) (once : (t : ℕ) → count (named t) (c .vc
   idle-there : All (λ v. v .runnable ≡ true → v .usable ≡ 0) (c .vcpus) → c .running ≡ none
   idle-there h = s .runs-chosen ∙ ap runs (nobody (c .vcpus) (all-imp unready (c .vcpus) h))
 
-  idle-timer-says : c .running ≡ none → (t : ℕ) → c .timer ≡ some t → Returns Runnable (c .vcpus) t × NoneBefore Runnable (c .vcpus) t
+  idle-timer-says : c .running ≡ none → (t : ℕ) → c .timer ≡ some t → Next Runnable (c .vcpus) t × NoneBefore Runnable (c .vcpus) t
   idle-timer-says e t f =
       in-idle (c .last) (c .vcpus) t (sym (ap (timer (c .last) (c .vcpus)) (idle-chosen e)) ∙ sym (s .timer-set) ∙ f)
 
-  -- a runnable VCPU that is idle has all of its C ticks pending
   no-timer-says : c .timer ≡ none → All (λ v. v .runnable ≡ false) (c .vcpus)
   unfolding timer
   no-timer-says e = go (choose (c .vcpus)) refl (sym (s .timer-set) ∙ e)
     where
-      nothing : (v : Vcpu) → Sound (c .last) v → (v .runnable ≡ true → v .usable ≡ 0) × (v .runnable ≡ true → v .pending ≡ [])
-          → v .runnable ≡ false
-      nothing v k p = ⊎-elim (λ z. absurd (omega (arith, p .0 z, k .whole, ap total (p .1 z), k .range .capacity-low))) (λ z. z)
-          (cases (v .runnable))
+      nothing : (v : Vcpu) → Sound (c .last) v
+          → (v .runnable ≡ true → v .usable ≡ 0) × (v .runnable ≡ true → (u : ℕ) → Comes v u → ⊥) → v .runnable ≡ false
+      nothing v k p = ⊎-elim (λ z. absurd (comes-again (c .last) v k (p .0 z) (p .1 z))) (λ z. z) (cases (v .runnable))
 
       go : (o : Option Vcpu) → choose (c .vcpus) ≡ o → timer (c .last) (c .vcpus) o ≡ none → All (λ v. v .runnable ≡ false) (c .vcpus)
       go none f g =
           all-both nothing (c .vcpus) sound
-          (all-both (λ v a b. (a, b)) (c .vcpus) (all-imp not-ready (c .vcpus) (idle (c .vcpus) f)) (no-return runnable (c .vcpus) g))
+          (all-both (λ v a b. (a, b)) (c .vcpus) (all-imp not-ready (c .vcpus) (idle (c .vcpus) f)) (no-return (c .last) (c .vcpus) g))
       go (some w) f g = no-some (sym g)
 
   no-timer-there : All (λ v. v .runnable ≡ false) (c .vcpus) → c .timer ≡ none
   unfolding timer
   no-timer-there h =
       let n : choose (c .vcpus) ≡ none = nobody (c .vcpus) (all-imp (λ v e. rw e) (c .vcpus) h) in
-      s .timer-set ∙ ap (timer (c .last) (c .vcpus)) n ∙ ap (λ (l : List Vcpu). earliest (returns l)) (keeps-none runnable (c .vcpus) h)
+      s .timer-set ∙ ap (timer (c .last) (c .vcpus)) n ∙ ap (λ (l : List Vcpu). earliest (nexts l)) (keeps-none runnable (c .vcpus) h)
 
   find-says : (t : ℕ) (v : Vcpu) → find t (c .vcpus) ≡ some v → Among v (c .vcpus) × (v .terms .tunnel ≡ t)
   find-says t v e = let p = found t (c .vcpus) v e in (p .0, named-says t v (p .1))
@@ -173,7 +190,9 @@ meaning calls =
       reports = λ v f. ap usableOf (only (after calls .vcpus) o v f);
       reports-card = (refl, refl, refl);
       reports-idle = λ e. ap usableOf (idle-chosen (after calls) s o k e);
-      whole = all-imp (λ v q. q .whole) (after calls .vcpus) k;
+      one-of-three = all-imp (λ v q. one-of-three (v .terms) (q .range .kind-high)) (after calls .vcpus) k;
+      keeps = all-imp (keeps-so (after calls .last)) (after calls .vcpus) k;
+      polling-waits = all-imp (λ v q. q .polls) (after calls .vcpus) k;
       sorted = all-imp (λ v q. rising-sorted (suc (after calls .last)) (after calls .last + v .terms .period) (v .pending) (q .order))
           (after calls .vcpus) k;
       to-come = all-imp (λ v q. rising-all (suc (after calls .last)) (after calls .last + v .terms .period) (v .pending) (q .order))

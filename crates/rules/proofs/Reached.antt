@@ -16,7 +16,7 @@ use Rattle.rules.specs.History.{after, heard, time, holder, past, ticks,
 use Rattle.rules.specs.Stays.{Stay, stays, changeStays}
 use Rattle.rules.proofs.Named.{is-named}
 use Rattle.rules.proofs.Lists.{all-imp, count-among}
-use Rattle.rules.proofs.Accepted.{Passed, passed, Settled, in-time, runs-on-card}
+use Rattle.rules.proofs.Accepted.{Passed, passed, Settled, in-time, runs-on-card, own-boundary as by-boundary}
 use Rattle.rules.proofs.Lawful.{Lawful}
 use Rattle.rules.proofs.Advance.{rows-stepped, advance}
 use Rattle.rules.proofs.Changed.{changed}
@@ -78,29 +78,39 @@ start =
       };
     }
 
--- an accepted call comes in time, and who runs is on the card
+-- an accepted call comes in time and by the boundary of the one that runs, and who runs is on the card
 module _ (c : Card) (ss : List Stay) (h : List (Option ℕ)) (r : Reached c ss h) where
   pub pace : (call : Call) → Passed c (call .now) (call .asked)
       → All (λ v. holds (v .terms .tunnel) (c .running) ≡ true → call .now - c .last ≤ v .usable) (c .vcpus)
   pace call p =
       all-imp (λ v f q. omega (arith, f q)) (c .vcpus) (in-time c (call .now) (r .settled) (r .lawful .once) (p .not-late))
 
+  pub own-boundary : (call : Call) → Passed c (call .now) (call .asked)
+      → All (λ v. holds (v .terms .tunnel) (c .running) ≡ true → (b : ℕ) → v .boundary ≡ some b → call .now ≤ b) (c .vcpus)
+  own-boundary call p = by-boundary c (call .now) (r .settled) (r .lawful .once) (p .not-late)
+
   pub there : (t : ℕ) → c .running ≡ some t → count (named t) (c .vcpus) ≡ 1
   there t f =
       let v = runs-on-card c (r .settled) t f in
       omega (arith, r .lawful .once t, count-among (named t) (c .vcpus) (v .0) (v .1) (is-named t (v .0) (v .2)))
 
+-- after steps 1 and 2 of an accepted call
+pub returned-lawful : (c : Card) (ss : List Stay) (h : List (Option ℕ)) (call : Call) → Reached c ss h
+    → Passed c (call .now) (call .asked)
+    → Lawful (call .now) (afterReturn c (call .now)) ss (ticks (call .now - c .last) (c .running) h)
+returned-lawful c ss h call r p =
+    let l : c .last ≤ call .now = p .not-before in
+    let n : c .last + (call .now - c .last) ≡ call .now = omega arith in
+    subst (λ (k : ℕ). Lawful k (afterReturn c k) ss (ticks (call .now - c .last) (c .running) h)) n
+    (advance c (call .now - c .last) ss h (r .lawful) (pace c ss h r call p) (there c ss h r))
+
 next : (c : Card) (ss : List Stay) (h : List (Option ℕ)) (call : Call) → Reached c ss h → refusal c (call .now) (call .asked) ≡ none
     → Reached (accepted c call) (changeStays (call .now) (call .asked) ss) (ticks (call .now - c .last) (c .running) h)
 next c ss h call r e =
     let p = passed c (call .now) (call .asked) e in
-    let l : c .last ≤ call .now = p .not-before in
-    let n : c .last + (call .now - c .last) ≡ call .now = omega arith in
     settles (call .now) (afterChange c call) _ _
     (changed (call .now) (afterReturn c (call .now)) ss (ticks (call .now - c .last) (c .running) h)
-    (subst (λ (k : ℕ). Lawful k (afterReturn c k) ss (ticks (call .now - c .last) (c .running) h)) n
-    (advance c (call .now - c .last) ss h (r .lawful) (pace c ss h r call p) (there c ss h r)))
-    (call .asked) (rows-stepped c (call .now) (call .asked) ∙ p .asked-for))
+    (returned-lawful c ss h call r p) (call .asked) (rows-stepped c (call .now) (call .asked) ∙ p .asked-for))
 
 pub reached : (calls : List Call) → Reached (after calls) (stays (heard calls)) (past (heard calls))
 unfolding settled

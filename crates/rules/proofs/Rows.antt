@@ -1,26 +1,30 @@
 -- The reply table: the reply is refused with a row's number and detail exactly when that row is the first that applies, and accepted
--- exactly when none does. Of every card and every call. Assumes nothing.
+-- exactly when none does; and the list of the rows has each of them once. Of every card and every call. Assumes nothing.
 use mathlib.Core.Path.{_≡_, refl, ap, sym, _∙_, subst}
 use mathlib.Core.Bool.{Bool, true, false, _&&_}
+use mathlib.Core.List.{List, [], _∷_}
 use mathlib.Core.Logic.{_⊎_, inl, inr, ⊎-elim}
 use mathlib.Core.Option.{Option, none, some}
-use Prim.Native.Nat.{ℕ, suc, _≤_, _<_}
+use Prim.Native.Nat.{ℕ, _≤_, _<_}
 use native.Mathlib.Omega.{arith}
-use lib.Dec.{leb, ltb}
+use lib.Dec.{leb, ltb, eqb}
 use lib.ListN.{length}
-use borrow.Author.Tests.{leb-false, not-true, not-false}
-use Rattle.rules.specs.Limits.{largestTime, largestTunnel, largestPeriod, mostVcpus, inRange}
+use borrow.Author.Tests.{leb-false, eq-eqb, not-true, not-false}
+use Rattle.rules.specs.Limits.{largestTime, largestTunnel, largestPeriod, largestKind, mostVcpus, inRange}
+use Rattle.rules.specs.Lists.{count, Among}
 use Rattle.rules.specs.Vcpu.{Description}
 use Rattle.rules.specs.Card.{Card, onCard}
 use Rattle.rules.specs.Change.{Change, admit, wake, block, remove, tick}
 use Rattle.rules.specs.Refuse.{Refusal, row, aboveLargest, belowLast, isLate, rowLate, above24Bits, admitRows, namingRows}
 use Rattle.rules.specs.Refuse.{callRows, refusal}
 use Rattle.rules.specs.Turn.{Call, ok, refused, turn, accepted, answered, report, settled}
-use Rattle.rules.specs.Meaning.{OnTheCard}
+use Rattle.rules.specs.Meaning.{Sporadic, Deferrable, Polling, OnTheCard}
 use Rattle.rules.specs.Rows.{AdmitOf, WakeBlockRemoveOf, OutOfRange, Row, row-1, row-2, row-3, row-4, row-5, row-6, row-7}
-use Rattle.rules.specs.Rows.{row-8, First, NoRow, Table}
-use Rattle.rules.proofs.Tests.{tests, clash, no-some, cases, and-false}
+use Rattle.rules.specs.Rows.{row-8, row-10, order, Higher, First, NoRow, Table}
+use Rattle.rules.proofs.Tests.{tests, clash, no-some, and-false}
+use Rattle.rules.proofs.Lists.{count-among}
 use Rattle.rules.proofs.Named.{on-card-says, is-on-card}
+use Rattle.rules.proofs.ThreeKinds.{one-of-three}
 use Rattle.rules.proofs.Accepted.{range-says}
 
 -- what a call names, and what an admit carries
@@ -48,7 +52,7 @@ names : (asked : Change) (tunnel : ℕ) → AdmitOf asked tunnel ⊎ WakeBlockRe
 names asked tunnel (inl p) = ap tunnelOf (p .1) ∙ ap some (p .2)
 names asked tunnel (inr p) = others-name asked tunnel p .0
 
-same : {A : Type 0} (o : Option A) (a b : A) → o ≡ some a → o ≡ some b → a ≡ b
+pub same : {A : Type 0} (o : Option A) (a b : A) → o ≡ some a → o ≡ some b → a ≡ b
 same o a b e f = let g : some a ≡ some b = sym e ∙ f in cc
 
 out-of-range : (period capacity : ℕ) → inRange period capacity ≡ false
@@ -70,10 +74,77 @@ not-out period capacity e o = go (range-says period capacity e) o
     go p (inr (inl h)) = omega (arith, p .2)
     go p (inr (inr h)) = omega (arith, p .3)
 
+-- in any list of rows
+
+lower : (n m : ℕ) (l : List ℕ) → Higher n m l → Among m l
+lower n m (a ∷ l) (inl p) = inr (p .1)
+lower n m (a ∷ l) (inr h) = inr (lower n m l h)
+
+-- of two one is above the other
+either : (n m : ℕ) (l : List ℕ) → Among n l → Among m l → (n ≡ m) ⊎ Higher n m l ⊎ Higher m n l
+either n m (a ∷ l) (inl e) (inl f) = inl (e ∙ sym f)
+either n m (a ∷ l) (inl e) (inr j) = inr (inl (inl (e, j)))
+either n m (a ∷ l) (inr i) (inl f) = inr (inr (inl (f, i)))
+either n m (a ∷ l) (inr i) (inr j) =
+    ⊎-elim inl (λ h. inr (⊎-elim (λ k. inl (inr k)) (λ k. inr (inr k)) h)) (either n m l i j)
+
+abbrev often : ℕ → List ℕ → ℕ
+often n l = count (λ m. eqb m n) l
+
+twice : (n a : ℕ) (l : List ℕ) → n ≡ a → Among n l → 2 ≤ often n (a ∷ l)
+twice n a l e i =
+    let f : eqb a n ≡ true = eq-eqb a n (sym e) in
+    rw f (omega (arith, count-among (λ m. eqb m n) l n i (eq-eqb n n refl)))
+
+-- .. and only one of them, where neither stands twice
+not-both : (n m : ℕ) (l : List ℕ) → Higher n m l → Higher m n l → (2 ≤ often n l) ⊎ (2 ≤ often m l)
+not-both n m (a ∷ l) (inl p) (inl q) = inl (twice n a l (p .0) (q .1))
+not-both n m (a ∷ l) (inl p) (inr k) = inl (twice n a l (p .0) (lower m n l k))
+not-both n m (a ∷ l) (inr h) (inl q) = inr (twice m a l (q .0) (lower n m l h))
+not-both n m (a ∷ l) (inr h) (inr k) = ⊎-elim (λ x. inl (omega arith)) (λ x. inr (omega arith)) (not-both n m l h k)
+
+-- the list of the rows has none twice
+pub at-most-once : (n : ℕ) → Among n order → often n order ≤ 1
+at-most-once n (inl e) = rw e (omega arith)
+at-most-once n (inr (inl e)) = rw e (omega arith)
+at-most-once n (inr (inr (inl e))) = rw e (omega arith)
+at-most-once n (inr (inr (inr (inl e)))) = rw e (omega arith)
+at-most-once n (inr (inr (inr (inr (inl e))))) = rw e (omega arith)
+at-most-once n (inr (inr (inr (inr (inr (inl e)))))) = rw e (omega arith)
+at-most-once n (inr (inr (inr (inr (inr (inr (inl e))))))) = rw e (omega arith)
+at-most-once n (inr (inr (inr (inr (inr (inr (inr (inl e)))))))) = rw e (omega arith)
+at-most-once n (inr (inr (inr (inr (inr (inr (inr (inr (inl e))))))))) = rw e (omega arith)
+
+-- so of two rows at most one is above the other, and none is above itself
+pub one-way : (n m : ℕ) → Higher n m order → Higher m n order → ⊥
+one-way n m h k =
+    ⊎-elim (λ x. omega (arith, at-most-once n (lower m n order k))) (λ x. omega (arith, at-most-once m (lower n m order h)))
+    (not-both n m order h k)
+
+pub strict : (n : ℕ) → Higher n n order → ⊥
+strict n h = one-way n n h h
+
 module _ (c : Card) (call : Call) where
-  -- none of the rows above this number applies
-  abbrev Above : ℕ → Type 0
-  Above number = (n d : ℕ) → n < number → Row c call n d → ⊥
+  -- the list has every row
+  pub all-there : (n d : ℕ) → Row c call n d → Among n order
+  all-there n d (row-1 h) = inl refl
+  all-there n d (row-2 h) = inr (inl refl)
+  all-there n d (row-3 t e h) = inr (inr (inl refl))
+  all-there n d (row-4 t e h) = inr (inr (inr (inl refl)))
+  all-there n d (row-5 t e h) = inr (inr (inr (inr (inl refl))))
+  all-there n d (row-10 t e f g h) = inr (inr (inr (inr (inr (inl refl)))))
+  all-there n d (row-6 t e h) = inr (inr (inr (inr (inr (inr (inl refl))))))
+  all-there n d (row-7 t e h) = inr (inr (inr (inr (inr (inr (inr (inl refl)))))))
+  all-there n d (row-8 t e h) = inr (inr (inr (inr (inr (inr (inr (inr (inl refl))))))))
+
+  -- from the top: only these rows are left that may apply, and they are the last of the table
+  record Left (rest : List ℕ) : Type 0 where
+    may-apply : (n d : ℕ) → Row c call n d → Among n rest
+    last : (n m : ℕ) → Higher n m rest → Higher n m order
+
+  -- those below the rows of the time
+  abbrev callOrder : List ℕ
+  callOrder = 4 ∷ 5 ∷ 10 ∷ 6 ∷ 7 ∷ 8 ∷ []
 
   abbrev Not : ℕ → Type 0
   Not number = (d : ℕ) → Row c call number d → ⊥
@@ -83,33 +154,30 @@ module _ (c : Card) (call : Call) where
   Says none = NoRow c call
   Says (some r) = First c call (r .number) (r .detail)
 
-  skip : (number : ℕ) → Not number → Above number → Above (suc number)
-  skip number f a n d h r =
-      ⊎-elim (λ e. a n d (omega (arith, tests)) r) (λ e. f d (subst (λ (k : ℕ). Row c call k d) (omega (arith, tests)) r))
-      (cases (ltb n number))
+  skip : (number : ℕ) (rest : List ℕ) → Not number → Left (number ∷ rest) → Left rest
+  skip number rest f a =
+      record {
+        may-apply = λ n d r. ⊎-elim (λ e. absurd (f d (subst (λ (k : ℕ). Row c call k d) e r))) (λ i. i) (a .may-apply n d r);
+        last = λ n m h. a .last n m (inr h);
+      }
 
   -- a row either applies, and is the first, or the rows below it are left
-  step : (o : Option Refusal) (t : Bool) (number detail : ℕ) (below : Option Refusal) → row t number detail below ≡ o
-      → (t ≡ true → Row c call number detail) → (t ≡ false → Not number) → (below ≡ o → Above (suc number) → Says o) → Above number
+  step : (o : Option Refusal) (t : Bool) (number detail : ℕ) (below : Option Refusal) (rest : List ℕ) → row t number detail below ≡ o
+      → (t ≡ true → Row c call number detail) → (t ≡ false → Not number) → (below ≡ o → Left rest → Says o) → Left (number ∷ rest)
       → Says o
-  step o true number detail below e f g next a = subst Says e (record { applies = f refl; none-above = a })
-  step o false number detail below e f g next a = next e (skip number (g refl) a)
+  step o true number detail below rest e f g next a = subst Says e (record { applies = f refl; none-above = none-above })
+    where
+      none-above : (n d : ℕ) → Higher n number order → Row c call n d → ⊥
+      none-above n d h r =
+          ⊎-elim (λ i. strict number (subst (λ (k : ℕ). Higher k number order) i h))
+          (λ i. one-way n number h (a .last number n (inl (refl, i)))) (a .may-apply n d r)
+  step o false number detail below rest e f g next a = next e (skip number rest (g refl) a)
 
-  between : (n d : ℕ) → Row c call n d → (1 ≤ n) × (n ≤ 8)
-  between n d (row-1 h) = omega arith
-  between n d (row-2 h) = omega arith
-  between n d (row-3 t e h) = omega arith
-  between n d (row-4 t e h) = omega arith
-  between n d (row-5 t e h) = omega arith
-  between n d (row-6 t e h) = omega arith
-  between n d (row-7 t e h) = omega arith
-  between n d (row-8 t e h) = omega arith
+  top : Left order
+  top = record { may-apply = all-there; last = λ n m h. h }
 
-  top : Above 1
-  top n d h r = omega (arith, between n d r .0)
-
-  bottom : Above 9 → Says none
-  bottom a n d r = a n d (omega (arith, between n d r .1)) r
+  bottom : Left [] → Says none
+  bottom a n d r = a .may-apply n d r
 
   -- each row taken apart
 
@@ -130,6 +198,10 @@ module _ (c : Card) (call : Call) where
       (OutOfRange 1 largestPeriod (t .period) ⊎ OutOfRange 1 (t .period) (t .capacity))
   of-5 d (row-5 t e h) = (t, ap termsOf e, h)
 
+  of-10 : (d : ℕ) → Row c call 10 d → (t : Description)
+      × (termsOf (call .asked) ≡ some t) × (Sporadic t → ⊥) × (Deferrable t → ⊥) × (Polling t → ⊥)
+  of-10 d (row-10 t e f g h) = (t, ap termsOf e, f, g, h)
+
   of-6 : (d : ℕ) → Row c call 6 d → (t : Description) × (termsOf (call .asked) ≡ some t) × OnTheCard (c .vcpus) (t .tunnel)
   of-6 d (row-6 t e h) = (t, ap termsOf e, h)
 
@@ -140,19 +212,20 @@ module _ (c : Card) (call : Call) where
   of-8 : (d : ℕ) → Row c call 8 d → (t : Description) × (termsOf (call .asked) ≡ some t) × (mostVcpus ≤ length (c .vcpus))
   of-8 d (row-8 t e h) = (t, ap termsOf e, h)
 
-  -- rows 5, 6 and 8 are an admit's
-  no-admit : (a : Change) → call .asked ≡ a → termsOf a ≡ none → Not 5 × Not 6 × Not 8
+  -- rows 5, 10, 6 and 8 are an admit's
+  no-admit : (a : Change) → call .asked ≡ a → termsOf a ≡ none → Not 5 × Not 10 × Not 6 × Not 8
   no-admit a e f = (
     λ d r. no-some (sym f ∙ ap termsOf (sym e) ∙ of-5 d r .1),
+    λ d r. no-some (sym f ∙ ap termsOf (sym e) ∙ of-10 d r .1),
     λ d r. no-some (sym f ∙ ap termsOf (sym e) ∙ of-6 d r .1),
     λ d r. no-some (sym f ∙ ap termsOf (sym e) ∙ of-8 d r .1),
   )
 
-  late : (o : Option Refusal) (u : Option ℕ) → c .timer ≡ u → (below : Option Refusal) → rowLate u (call .now) below ≡ o
-      → (below ≡ o → Above 4 → Says o) → Above 3 → Says o
-  late o none e below w next a = next w (skip 3 (λ d r. no-some (sym e ∙ of-3 d r .0)) a)
-  late o (some t) e below w next a =
-      step o (isLate t (call .now)) 3 t _ w (λ f. row-3 t e (omega (arith, tests)))
+  late : (o : Option Refusal) (u : Option ℕ) → c .timer ≡ u → (below : Option Refusal) (rest : List ℕ)
+      → rowLate u (call .now) below ≡ o → (below ≡ o → Left rest → Says o) → Left (3 ∷ rest) → Says o
+  late o none e below rest w next a = next w (skip 3 rest (λ d r. no-some (sym e ∙ of-3 d r .0)) a)
+  late o (some t) e below rest w next a =
+      step o (isLate t (call .now)) 3 t _ rest w (λ f. row-3 t e (omega (arith, tests)))
       (λ f d r. let q : t ≡ d = same (c .timer) t d e (of-3 d r .0) in omega (arith, tests, of-3 d r .1)) next a
 
   -- "identifier above 24 bits"
@@ -162,15 +235,18 @@ module _ (c : Card) (call : Call) where
       let q : t ≡ p .0 = same (tunnelOf (call .asked)) t (p .0) (names (call .asked) t n) (p .1) in
       omega (arith, p .2)
 
-  admitting : (o : Option Refusal) (d : Description) → call .asked ≡ admit d → admitRows (c .vcpus) d ≡ o → Above 4 → Says o
+  admitting : (o : Option Refusal) (d : Description) → call .asked ≡ admit d → admitRows (c .vcpus) d ≡ o → Left callOrder → Says o
   admitting o d e w a =
-      step o (above24Bits (d .tunnel)) 4 0 _ w (λ f. row-4 (d .tunnel) (inl (d, e, refl)) (omega (arith, tests)))
+      step o (above24Bits (d .tunnel)) 4 0 _ _ w (λ f. row-4 (d .tunnel) (inl (d, e, refl)) (omega (arith, tests)))
       (λ f n r. omega (arith, tests, high (d .tunnel) (inl (d, e, refl)) n r))
-      (λ w. step o _ 5 0 _ w (λ f. row-5 d e (out-of-range (d .period) (d .capacity) (not-true _ f)))
+      (λ w. step o _ 5 0 _ _ w (λ f. row-5 d e (out-of-range (d .period) (d .capacity) (not-true _ f)))
       (λ f n r. in-range (not-false _ f) n r)
-      (λ w. step o _ 6 0 _ w (λ f. row-6 d e (on-card-says (c .vcpus) (d .tunnel) f)) (λ f n r. clash (sym (there n r) ∙ f))
-      (λ w b. step o (leb mostVcpus (length (c .vcpus))) 8 0 _ w (λ f. row-8 d e (omega (arith, tests)))
-      (λ f n r. omega (arith, tests, of-8 n r .2)) (λ w k. subst Says w (bottom k)) (skip 7 not-7 b)))) a
+      (λ w. step o (ltb largestKind (d .kind)) 10 0 _ _ w
+      (λ f. row-10 d e (λ k. omega (arith, tests)) (λ k. omega (arith, tests)) (λ k. omega (arith, tests)))
+      (λ f n r. known (omega (arith, tests)) n r)
+      (λ w. step o _ 6 0 _ _ w (λ f. row-6 d e (on-card-says (c .vcpus) (d .tunnel) f)) (λ f n r. clash (sym (there n r) ∙ f))
+      (λ w b. step o (leb mostVcpus (length (c .vcpus))) 8 0 _ _ w (λ f. row-8 d e (omega (arith, tests)))
+      (λ f n r. omega (arith, tests, of-8 n r .2)) (λ w k. subst Says w (bottom k)) (skip 7 _ not-7 b))))) a
     where
       is-d : (t : Description) → termsOf (call .asked) ≡ some t → t ≡ d
       is-d t f = same (termsOf (call .asked)) t d f (ap termsOf e)
@@ -182,6 +258,12 @@ module _ (c : Card) (call : Call) where
           (subst (λ (x : Description). OutOfRange 1 largestPeriod (x .period) ⊎ OutOfRange 1 (x .period) (x .capacity))
           (is-d (p .0) (p .1)) (p .2))
 
+      known : d .kind ≤ 2 → Not 10
+      known h n r =
+          let p = of-10 n r in
+          let k = one-of-three (p .0) (subst (λ (x : Description). x .kind ≤ 2) (sym (is-d (p .0) (p .1))) h) in
+          ⊎-elim (p .2) (⊎-elim (p .3) (p .4)) k
+
       there : (n : ℕ) → Row c call 6 n → onCard (d .tunnel) (c .vcpus) ≡ true
       there n r =
           let p = of-6 n r in
@@ -190,14 +272,14 @@ module _ (c : Card) (call : Call) where
       not-7 : Not 7
       not-7 n r = no-some (sym (of-7 n r .2) ∙ ap termsOf e)
 
-  naming : (o : Option Refusal) (t : ℕ) → WakeBlockRemoveOf (call .asked) t → namingRows (c .vcpus) t ≡ o → Above 4 → Says o
+  naming : (o : Option Refusal) (t : ℕ) → WakeBlockRemoveOf (call .asked) t → namingRows (c .vcpus) t ≡ o → Left callOrder → Says o
   naming o t i w a =
-      step o (above24Bits t) 4 0 _ w (λ f. row-4 t (inr i) (omega (arith, tests))) (λ f n r. omega (arith, tests, high t (inr i) n r))
-      (λ w b. step o _ 7 0 _ w (λ f. row-7 t i (λ p. clash (sym (is-on-card (c .vcpus) t p) ∙ not-true _ f)))
+      step o (above24Bits t) 4 0 _ _ w (λ f. row-4 t (inr i) (omega (arith, tests))) (λ f n r. omega (arith, tests, high t (inr i) n r))
+      (λ w b. step o _ 7 0 _ _ w (λ f. row-7 t i (λ p. clash (sym (is-on-card (c .vcpus) t p) ∙ not-true _ f)))
       (λ f n r. not-there n r (on-card-says (c .vcpus) t (not-false _ f)))
-      (λ w k. subst Says w (bottom (skip 8 (x .2) k))) (skip 6 (x .1) (skip 5 (x .0) b))) a
+      (λ w k. subst Says w (bottom (skip 8 _ (x .3) k))) (skip 6 _ (x .2) (skip 10 _ (x .1) (skip 5 _ (x .0) b)))) a
     where
-      x : Not 5 × Not 6 × Not 8
+      x : Not 5 × Not 10 × Not 6 × Not 8
       x = no-admit (call .asked) refl (others-name (call .asked) t i .1)
 
       not-there : (n : ℕ) → Row c call 7 n → OnTheCard (c .vcpus) t → ⊥
@@ -206,16 +288,16 @@ module _ (c : Card) (call : Call) where
           p .3 (subst (λ (x : ℕ). OnTheCard (c .vcpus) x)
           (same (tunnelOf (call .asked)) t (p .0) (others-name (call .asked) t i .0) (p .1)) k)
 
-  asks : (o : Option Refusal) (a : Change) → call .asked ≡ a → callRows (c .vcpus) a ≡ o → Above 4 → Says o
+  asks : (o : Option Refusal) (a : Change) → call .asked ≡ a → callRows (c .vcpus) a ≡ o → Left callOrder → Says o
   asks o (admit d) e = admitting o d e
   asks o (wake t) e = naming o t (inl e)
   asks o (block t) e = naming o t (inr (inl e))
   asks o (remove t) e = naming o t (inr (inr e))
   asks o tick e = λ w a. subst Says w
-      (bottom (skip 8 (x .2) (skip 7 (λ d r. nothing (of-7 d r .1))
-      (skip 6 (x .1) (skip 5 (x .0) (skip 4 (λ d r. nothing (of-4 d r .1)) a))))))
+      (bottom (skip 8 _ (x .3) (skip 7 _ (λ d r. nothing (of-7 d r .1))
+      (skip 6 _ (x .2) (skip 10 _ (x .1) (skip 5 _ (x .0) (skip 4 _ (λ d r. nothing (of-4 d r .1)) a)))))))
     where
-      x : Not 5 × Not 6 × Not 8
+      x : Not 5 × Not 10 × Not 6 × Not 8
       x = no-admit tick e refl
 
       nothing : {t : ℕ} → tunnelOf (call .asked) ≡ some t → ⊥
@@ -225,9 +307,10 @@ module _ (c : Card) (call : Call) where
   says : (o : Option Refusal) → refusal c (call .now) (call .asked) ≡ o → Says o
   unfolding refusal
   says o w =
-      step o (aboveLargest (call .now)) 1 0 _ w (λ f. row-1 (omega (arith, tests))) (λ f d r. omega (arith, tests, of-1 d r))
-      (λ w. step o (belowLast (c .last) (call .now)) 2 0 _ w (λ f. row-2 (omega (arith, tests))) (λ f d r. omega (arith, tests, of-2 d r))
-      (λ w. late o (c .timer) refl (callRows (c .vcpus) (call .asked)) w (asks o (call .asked) refl))) top
+      step o (aboveLargest (call .now)) 1 0 _ _ w (λ f. row-1 (omega (arith, tests))) (λ f d r. omega (arith, tests, of-1 d r))
+      (λ w. step o (belowLast (c .last) (call .now)) 2 0 _ _ w (λ f. row-2 (omega (arith, tests)))
+      (λ f d r. omega (arith, tests, of-2 d r))
+      (λ w. late o (c .timer) refl (callRows (c .vcpus) (call .asked)) _ w (asks o (call .asked) refl))) top
 
   one-detail : (n d e : ℕ) → Row c call n d → Row c call n e → d ≡ e
   one-detail n d e (row-1 h) (row-1 k) = refl
@@ -235,6 +318,7 @@ module _ (c : Card) (call : Call) where
   one-detail n d e (row-3 t f h) (row-3 u g k) = same (c .timer) t u f g
   one-detail n d e (row-4 t f h) (row-4 u g k) = refl
   one-detail n d e (row-5 t f h) (row-5 u g k) = refl
+  one-detail n d e (row-10 t f h i j) (row-10 u g k l m) = refl
   one-detail n d e (row-6 t f h) (row-6 u g k) = refl
   one-detail n d e (row-7 t f h) (row-7 u g k) = refl
   one-detail n d e (row-8 t f h) (row-8 u g k) = refl
@@ -242,16 +326,12 @@ module _ (c : Card) (call : Call) where
   -- of two that are first neither is above the other
   one-first : (n d m e : ℕ) → First c call n d → First c call m e → (n ≡ m) × (d ≡ e)
   one-first n d m e f g =
-      let q : n ≡ m = omega (arith, tests, below (ltb n m) refl, above (ltb m n) refl) in
+      let q : n ≡ m = ⊎-elim (λ p. p) above (either n m order (all-there n d (f .applies)) (all-there m e (g .applies))) in
       (q, one-detail m d e (subst (λ (k : ℕ). Row c call k d) q (f .applies)) (g .applies))
     where
-      below : (b : Bool) → ltb n m ≡ b → m ≤ n
-      below true h = absurd (g .none-above n d (omega (arith, tests)) (f .applies))
-      below false h = omega (arith, tests)
-
-      above : (b : Bool) → ltb m n ≡ b → n ≤ m
-      above true h = absurd (f .none-above m e (omega (arith, tests)) (g .applies))
-      above false h = omega (arith, tests)
+      above : Higher n m order ⊎ Higher m n order → n ≡ m
+      above (inl h) = absurd (g .none-above n d h (f .applies))
+      above (inr h) = absurd (f .none-above m e h (g .applies))
 
   given : (n d : ℕ) → First c call n d → refusal c (call .now) (call .asked) ≡ some (record { number = n; detail = d })
   given n d f = go (refusal c (call .now) (call .asked)) refl

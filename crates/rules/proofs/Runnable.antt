@@ -43,17 +43,17 @@ mark-runnable f t b vs a = all-map (As (λ n. cond (eqb n t) b (f n))) (λ v. co
         go true e = rw e
         go false e = rw e q
 
-change-runnable : (f : ℕ → Bool) (asked : Change) (vs : List Vcpu) → callRows vs asked ≡ none → All (As f) vs
-    → All (As (λ n. runnableAfter asked n (f n))) (change asked vs)
-change-runnable f (admit d) vs e a =
-    all-placed (As (λ n. runnableAfter (admit d) n (f n))) (admitted d) vs (rw (eq-eqb (d .tunnel) (d .tunnel) refl))
+change-runnable : (f : ℕ → Bool) (now : ℕ) (asked : Change) (vs : List Vcpu) → callRows vs asked ≡ none → All (As f) vs
+    → All (As (λ n. runnableAfter asked n (f n))) (change now asked vs)
+change-runnable f now (admit d) vs e a =
+    all-placed (As (λ n. runnableAfter (admit d) n (f n))) (admitted now d) vs (rw (eq-eqb (d .tunnel) (d .tunnel) refl))
     (all-both (λ v n q. rw n q) vs (any-false (named (d .tunnel)) vs (admits vs d e .not-there)) a)
-change-runnable f (wake t) vs e a = mark-runnable f t true vs a
-change-runnable f (block t) vs e a = mark-runnable f t false vs a
-change-runnable f (remove t) vs e a =
+change-runnable f now (wake t) vs e a = mark-runnable f t true vs a
+change-runnable f now (block t) vs e a = mark-runnable f t false vs a
+change-runnable f now (remove t) vs e a =
     among-all (As (λ n. runnableAfter (remove t) n (f n))) (keep (λ v. not (named t v)) vs)
     (λ v m. let p = among-keep (λ v. not (named t v)) vs v m in rw (not-true (named t v) (p .1)) (all-among (As f) vs a v (p .0)))
-change-runnable f tick vs e a = a
+change-runnable f now tick vs e a = a
 
 pub runnable-told : (calls : List Call) → All (λ v. v .runnable ≡ isRunnable (heard calls) (v .terms .tunnel)) (after calls .vcpus)
 unfolding settled
@@ -66,6 +66,6 @@ runnable-told (call ∷ calls) = go (refusal (after calls) (call .now) (call .as
     go (some r) e ih = rw (reply-refused (after calls) call r e, card-refused (after calls) call r e) ih
     go none e ih =
         rw (reply-accepted (after calls) call e, card-accepted (after calls) call e)
-        (change-runnable (isRunnable (heard calls)) (call .asked) (afterReturn (after calls) (call .now))
+        (change-runnable (isRunnable (heard calls)) (call .now) (call .asked) (afterReturn (after calls) (call .now))
         (rows-stepped (after calls) (call .now) (call .asked) ∙ passed (after calls) (call .now) (call .asked) e .asked-for)
         (step-runnable (isRunnable (heard calls)) (after calls) (call .now) ih))

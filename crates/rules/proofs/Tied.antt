@@ -1,6 +1,6 @@
--- What ties a VCPU's queue to the ticks that its stay held: of the slices begun less than T before a moment x to come, no more ticks were
--- held than are pending at x or later; and while its slices never made the queue fold, the recent ones are its pending returns, one for
--- one. Assumes of a charge what Sound does.
+-- What ties a sporadic VCPU's queue to the ticks that its stay held: of the slices begun less than T before a moment x to come, no more
+-- ticks were held than are pending at x or later; and while its slices never made the queue fold, the recent ones are its pending
+-- returns, one for one. Assumes of a charge what Sound does.
 use mathlib.Core.Path.{_≡_, refl, ap, sym, _∙_, subst}
 use mathlib.Core.Bool.{Bool, true, false, cond, _||_}
 use mathlib.Core.List.{List, [], _∷_, _++_}
@@ -17,6 +17,7 @@ use Rattle.rules.specs.Return.{still}
 use Rattle.rules.specs.History.{ticks}
 use Rattle.rules.specs.Slices.{Slice, slices, recent, returnsOf, everFolds}
 use Rattle.rules.proofs.Tests.{tests, clash, cases, or-false, or-right, or-none}
+use Rattle.rules.proofs.ThreeKinds.{is-sporadic}
 use Rattle.rules.proofs.Slices.{going, begun, going-not, going-short, going-counted, More, more, begun-idle}
 use Rattle.rules.proofs.Slices.{slices-apart, slices-idle, slices-begin, slices-on}
 use Rattle.rules.proofs.Queue.{pend, pend-most, lastDue, last-between, Rising, Posted, posts, due-there, joins-says}
@@ -93,7 +94,7 @@ module _ (last d : ℕ) (v : Vcpu) (m : List Bool) (n : length m ≡ last) (s : 
         going-counted T (suc last) m (omega (arith, g .0)),
         t .at-most (suc last) (omega arith),
         pend-most (suc last) (v .pending),
-        s .whole,
+        s .most,
         s .range .capacity-high,
       )
 
@@ -220,14 +221,14 @@ module _ (last d : ℕ) (v : Vcpu) (m : List Bool) (n : length m ≡ last) (s : 
       → Within T (v .terms .capacity) (ticks d true m)
   within-charged w =
       within-held T (v .terms .capacity) d m (s .range .period-low) w
-      (λ x k. omega (arith, t .at-most x (omega arith), pend-most x (v .pending), s .whole))
+      (λ x k. omega (arith, t .at-most x (omega arith), pend-most x (v .pending), s .most))
 
--- a charge of any d ticks
-pub tied-charged : (last d : ℕ) (v : Vcpu) (m : List Bool) → length m ≡ last → Sound last v → d ≤ v .usable
+-- a charge of any d ticks, of a sporadic VCPU
+pub tied-charged : (last d : ℕ) (v : Vcpu) (m : List Bool) → v .terms .kind ≡ 0 → length m ≡ last → Sound last v → d ≤ v .usable
     → Tied (v .terms .period) last (v .ended) (v .pending) m
     → Tied (v .terms .period) (last + d) (charged last (last + d) v .ended) (charged last (last + d) v .pending) (ticks d true m)
 unfolding charged
-tied-charged last d v m n s u t = go (noTicks last (last + d)) refl
+tied-charged last d v m i n s u t = go (noTicks last (last + d)) refl
   where
     go : (b : Bool) → noTicks last (last + d) ≡ b
         → Tied (v .terms .period) (last + d) (cond b v (chargedSome last (last + d) v) .ended)
@@ -239,4 +240,4 @@ tied-charged last d v m n s u t = go (noTicks last (last + d)) refl
     go false z =
         let k : 1 ≤ d = omega (arith, tests) in
         let e : last + d - last ≡ d = omega arith in
-        rw e (tied-held last d v m n s u t k)
+        rw (e, is-sporadic (v .terms) i) (tied-held last d v m n s u t k)

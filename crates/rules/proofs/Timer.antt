@@ -1,6 +1,6 @@
--- Step 5 means what it says: the timer is the earliest of the moments that it names, each of them is named, and there is none
--- where nothing is named. Assumes nothing.
-use mathlib.Core.Path.{_≡_, refl, sym, _∙_, subst}
+-- Step 5 means what it says, of every kind: the timer is the earliest of the moments that it names, each of them is named, and there
+-- is none where nothing is named. One law over what comes to a VCPU (`comes`, `next`). Assumes nothing.
+use mathlib.Core.Path.{_≡_, refl, sym, subst}
 use mathlib.Core.Bool.{Bool, true, false}
 use mathlib.Core.List.{List, [], _∷_, _++_, map}
 use mathlib.Core.Logic.{_⊎_, inl, inr, ⊎-elim}
@@ -9,12 +9,12 @@ use Prim.Native.Nat.{ℕ, _+_, _<_, _≤_, min}
 use native.Mathlib.Omega.{arith}
 use Rattle.rules.specs.Lists.{keep, All, Among}
 use Rattle.rules.specs.Vcpu.{Entry, Vcpu, moreUrgent}
-use Rattle.rules.specs.Timer.{earlier, earliest, returns, runnable, above, timer}
+use Rattle.rules.specs.Timer.{earlier, earliest, times, comes, next, nexts, runnable, above, timer}
 use lib.Dec.{leb}
-use Rattle.rules.specs.Meaning.{Returns, NoneBefore, Runnable, Above, TimerWhile}
+use Rattle.rules.specs.Meaning.{Comes, return, boundary, Next, NoneBefore, Runnable, Above, TimerWhile}
 use borrow.Author.Tests.{leb-true, leb-false}
 use Rattle.rules.proofs.Tests.{no-some, cases, and-true}
-use Rattle.rules.proofs.Lists.{all-imp, among-keep, all-kept}
+use Rattle.rules.proofs.Lists.{all-imp, all-among, among-map, map-among, among-keep, all-kept}
 use Rattle.rules.proofs.Urgency.{before, urgent}
 
 earliest-none : (ts : List ℕ) → earliest ts ≡ none → ts ≡ []
@@ -56,93 +56,103 @@ all-append : {A : Type 0} (P : A → Type 0) (l k : List A) → All P (l ++ k) �
 all-append P [] k h = (tt, h)
 all-append P (a ∷ l) k h = ((h .0, all-append P l k (h .1) .0), all-append P l k (h .1) .1)
 
-among-dues : (q : List Entry) (t : ℕ) → Among t (map (λ e. e .due) q) → (e : Entry) × (Among e q) × (t ≡ e .due)
-among-dues (f ∷ q) t (inl g) = (f, inl refl, g)
-among-dues (f ∷ q) t (inr m) = let p = among-dues q t m in (p .0, inr (p .1), p .2)
+append-among : {A : Type 0} (l k : List A) (a : A) → Among a l ⊎ Among a k → Among a (l ++ k)
+append-among [] k a (inr m) = m
+append-among (b ∷ l) k a (inl (inl e)) = inl e
+append-among (b ∷ l) k a (inl (inr m)) = inr (append-among l k a (inl m))
+append-among (b ∷ l) k a (inr m) = inr (append-among l k a (inr m))
 
-all-dues : (q : List Entry) (t : ℕ) → All (λ u. t ≤ u) (map (λ e. e .due) q) → All (λ e. t ≤ e .due) q
-all-dues [] t h = tt
-all-dues (e ∷ q) t h = (h .0, all-dues q t (h .1))
+among-times : (o : Option ℕ) (t : ℕ) → Among t (times o) → o ≡ some t
+among-times (some u) t (inl e) = rw e
 
-among-returns : (l : List Vcpu) (t : ℕ) → Among t (returns l)
-    → (w : Vcpu) × (e : Entry) × (Among w l) × (Among e (w .pending)) × (t ≡ e .due)
-among-returns (v ∷ l) t m = go (among-append (map (λ e. e .due) (v .pending)) (returns l) t m) (λ k. among-returns l t k)
+times-among : (o : Option ℕ) (t : ℕ) → o ≡ some t → Among t (times o)
+times-among o t e = rw e (inl refl)
+
+-- the rules' times of a VCPU are those at which something comes to it
+
+comes-says : (v : Vcpu) (t : ℕ) → Among t (comes v) → Comes v t
+comes-says v t m = go (among-append (map (λ e. e .due) (v .pending)) (times (v .boundary)) t m)
   where
-    go : Among t (map (λ e. e .due) (v .pending)) ⊎ Among t (returns l)
-        → (Among t (returns l) → (w : Vcpu) × (e : Entry) × (Among w l) × (Among e (w .pending)) × (t ≡ e .due))
-        → (w : Vcpu) × (e : Entry) × (Among w (v ∷ l)) × (Among e (w .pending)) × (t ≡ e .due)
-    go (inl k) ih = let p = among-dues (v .pending) t k in (v, p .0, inl refl, p .1, p .2)
-    go (inr k) ih = let p = ih k in (p .0, p .1, inr (p .2), p .3, p .4)
+    go : Among t (map (λ e. e .due) (v .pending)) ⊎ Among t (times (v .boundary)) → Comes v t
+    go (inl k) =
+        let p = among-map (λ (e : Entry). e .due) (v .pending) t k in
+        subst (λ (u : ℕ). Comes v u) (sym (p .2)) (return (p .0) (p .1))
+    go (inr k) = boundary t (among-times (v .boundary) t k)
 
-all-returns : (l : List Vcpu) (t : ℕ) → All (λ u. t ≤ u) (returns l) → All (λ w. All (λ e. t ≤ e .due) (w .pending)) l
-all-returns [] t h = tt
-all-returns (v ∷ l) t h =
-    let p = all-append (λ u. t ≤ u) (map (λ e. e .due) (v .pending)) (returns l) h in
-    (all-dues (v .pending) t (p .0), all-returns l t (p .1))
+is-coming : (v : Vcpu) (t : ℕ) → Comes v t → Among t (comes v)
+is-coming v t (return e m) =
+    append-among (map (λ f. f .due) (v .pending)) (times (v .boundary)) (e .due) (inl (map-among (λ (f : Entry). f .due) (v .pending) e m))
+is-coming v t (boundary b e) =
+    append-among (map (λ f. f .due) (v .pending)) (times (v .boundary)) b (inr (times-among (v .boundary) b e))
 
-none-returns : (l : List Vcpu) → returns l ≡ [] → All (λ w. w .pending ≡ []) l
-none-returns [] h = tt
-none-returns (v ∷ l) h = go (v .pending) refl h (λ e. none-returns l e)
+-- `next` is the first of them
+pub next-says : (v : Vcpu) (t : ℕ) → next v ≡ some t → Comes v t × ((u : ℕ) → Comes v u → t ≤ u)
+next-says v t e =
+    let p = earliest-says (comes v) t e in
+    (comes-says v t (p .0), λ u k. all-among (λ x. t ≤ x) (comes v) (p .1) u (is-coming v u k))
+
+-- and where there is none, nothing comes
+pub next-none : (v : Vcpu) → next v ≡ none → (u : ℕ) → Comes v u → ⊥
+next-none v e u k = subst (λ (l : List ℕ). Among u l) (earliest-none (comes v) e) (is-coming v u k)
+
+among-nexts : (l : List Vcpu) (t : ℕ) → Among t (nexts l) → (w : Vcpu) × Among w l × Comes w t
+among-nexts (v ∷ l) t m = go (among-append (times (next v)) (nexts l) t m) (λ k. among-nexts l t k)
   where
-    go : (q : List Entry) → v .pending ≡ q → map (λ e. e .due) q ++ returns l ≡ [] → (returns l ≡ [] → All (λ w. w .pending ≡ []) l)
-        → (v .pending ≡ []) × All (λ w. w .pending ≡ []) l
-    go [] e f ih = (e, ih f)
-    go (x ∷ q) e f ih = let z : _≡_ {A = ℕ} 0 1 = cc in absurd (omega arith)
+    go : Among t (times (next v)) ⊎ Among t (nexts l) → (Among t (nexts l) → (w : Vcpu) × Among w l × Comes w t)
+        → (w : Vcpu) × Among w (v ∷ l) × Comes w t
+    go (inl k) ih = (v, inl refl, next-says v t (among-times (next v) t k) .0)
+    go (inr k) ih = let p = ih k in (p .0, inr (p .1), p .2)
 
--- the earliest pending return of those that pass the test, where there is one
-earliest-return : (test : Vcpu → Bool) (vs : List Vcpu) (t : ℕ) → earliest (returns (keep test vs)) ≡ some t
-    → Returns (λ w. test w ≡ true) vs t × NoneBefore (λ w. test w ≡ true) vs t
-earliest-return test vs t e =
-    let p = earliest-says (returns (keep test vs)) t e in
-    let q = among-returns (keep test vs) t (p .0) in
-    let r = among-keep test vs (q .0) (q .2) in (
-      record { who = q .0; which = q .1; on-card = r .0; is-such = r .1; pends = q .3; then = q .4 },
-      all-kept (λ w. All (λ e. t ≤ e .due) (w .pending)) test vs (all-returns (keep test vs) t (p .1)),
-    )
+-- where the first that comes to a VCPU is not before the moment, nothing that comes to it is
+none-before : (v : Vcpu) (t : ℕ) → All (λ x. t ≤ x) (times (next v)) → (u : ℕ) → Comes v u → t ≤ u
+none-before v t h u k = go (next v) refl h
+  where
+    go : (o : Option ℕ) → next v ≡ o → All (λ x. t ≤ x) (times o) → t ≤ u
+    go none e f = absurd (next-none v e u k)
+    go (some x) e f = omega (arith, f .0, next-says v x e .1 u k)
 
--- and where there is none, none of those that pass has anything pending
-pub no-return : (test : Vcpu → Bool) (vs : List Vcpu) → earliest (returns (keep test vs)) ≡ none
-    → All (λ w. test w ≡ true → w .pending ≡ []) vs
-no-return test vs e =
-    all-kept (λ w. w .pending ≡ []) test vs (none-returns (keep test vs) (earliest-none (returns (keep test vs)) e))
+all-nexts : (l : List Vcpu) (t : ℕ) → All (λ x. t ≤ x) (nexts l) → All (λ w. (u : ℕ) → Comes w u → t ≤ u) l
+all-nexts [] t h = tt
+all-nexts (v ∷ l) t h =
+    let p = all-append (λ x. t ≤ x) (times (next v)) (nexts l) h in
+    (none-before v t (p .0), all-nexts l t (p .1))
 
--- "In idle: the earliest pending return of any runnable VCPU"
-pub in-idle : (now : ℕ) (vs : List Vcpu) (t : ℕ) → timer now vs none ≡ some t → Returns Runnable vs t × NoneBefore Runnable vs t
+none-nexts : (l : List Vcpu) → nexts l ≡ [] → All (λ w. (u : ℕ) → Comes w u → ⊥) l
+none-nexts [] h = tt
+none-nexts (v ∷ l) h = go (next v) refl h (λ e. none-nexts l e)
+  where
+    go : (o : Option ℕ) → next v ≡ o → times o ++ nexts l ≡ [] → (nexts l ≡ [] → All (λ w. (u : ℕ) → Comes w u → ⊥) l)
+        → ((u : ℕ) → Comes v u → ⊥) × All (λ w. (u : ℕ) → Comes w u → ⊥) l
+    go none e f ih = (next-none v e, ih f)
+    go (some x) e f ih = let z : _≡_ {A = ℕ} 0 1 = cc in absurd (omega arith)
+
+-- of those that pass a test, where the test is the fact that step 5 names
+module _ (Such : Vcpu → Type 0) (test : Vcpu → Bool) (says : (w : Vcpu) → test w ≡ true → Such w)
+    (is : (w : Vcpu) → Such w → test w ≡ true) (vs : List Vcpu) where
+  next-of : (t : ℕ) → Among t (nexts (keep test vs)) → Next Such vs t
+  next-of t m =
+      let p = among-nexts (keep test vs) t m in
+      let q = among-keep test vs (p .0) (p .1) in
+      record { who = p .0; on-card = q .0; is-such = says (p .0) (q .1); comes = p .2 }
+
+  none-before-of : (t : ℕ) → All (λ x. t ≤ x) (nexts (keep test vs)) → NoneBefore Such vs t
+  none-before-of t h =
+      all-imp (λ w k s. k (is w s)) vs
+      (all-kept (λ w. (u : ℕ) → Comes w u → t ≤ u) test vs (all-nexts (keep test vs) t h))
+
+-- "In idle: the earliest pending return of any runnable VCPU", or boundary
+pub in-idle : (now : ℕ) (vs : List Vcpu) (t : ℕ) → timer now vs none ≡ some t → Next Runnable vs t × NoneBefore Runnable vs t
 unfolding timer
-in-idle now vs t e = earliest-return runnable vs t e
+in-idle now vs t e =
+    let p = earliest-says (nexts (keep runnable vs)) t e in
+    (next-of Runnable runnable (λ w h. h) (λ w h. h) vs t (p .0), none-before-of Runnable runnable (λ w h. h) (λ w h. h) vs t (p .1))
 
--- of a moment `a` and the returns of those that pass a test, where that is the test that step 5 names
-earlier-says : (now : ℕ) (vs : List Vcpu) (v : Vcpu) (a : ℕ) (test : Vcpu → Bool) → a ≡ now + v .usable
-    → ((w : Vcpu) → Above v w → test w ≡ true) → ((w : Vcpu) → test w ≡ true → Above v w)
-    → TimerWhile now vs v (earlier a (earliest (returns (keep test vs))))
-earlier-says now vs v a test e f g = go (earliest (returns (keep test vs))) refl
-  where
-    go : (o : Option ℕ) → earliest (returns (keep test vs)) ≡ o → TimerWhile now vs v (earlier a o)
-    go none n =
-        record {
-          in-time = omega arith;
-          before-returns = all-imp (λ w h p. rw (h (f w p)) tt) vs (no-return test vs n);
-          one-of-them = inl e;
-        }
-    go (some u) n =
-        let p = earliest-return test vs u n in
-        record {
-          in-time = omega arith;
-          before-returns = all-imp (λ w h q. all-imp (λ x k. omega arith) (w .pending) (h (f w q))) vs (p .1);
-          one-of-them = ⊎-elim (λ q. inl (omega (arith, leb-true a u q))) (λ q. inr (later (leb-false a u q) (p .0))) (cases (leb a u));
-        }
-      where
-        later : u < a → Returns (λ w. test w ≡ true) vs u → Returns (Above v) vs (min a u)
-        later h r =
-            let m : min a u ≡ u = omega arith in
-            record {
-              who = r .who;
-              which = r .which;
-              on-card = r .on-card;
-              is-such = g (r .who) (r .is-such);
-              pends = r .pends;
-              then = m ∙ r .then;
-            }
+-- and where idle has no timer nothing comes to any runnable VCPU
+pub no-return : (now : ℕ) (vs : List Vcpu) → timer now vs none ≡ none → All (λ w. Runnable w → (u : ℕ) → Comes w u → ⊥) vs
+unfolding timer
+no-return now vs e =
+    all-kept (λ w. (u : ℕ) → Comes w u → ⊥) runnable vs
+    (none-nexts (keep runnable vs) (earliest-none (nexts (keep runnable vs)) e))
 
 -- "any runnable VCPU more urgent than it"
 above-says : (v w : Vcpu) → above v w ≡ true → Above v w
@@ -153,7 +163,26 @@ above-says v w e =
 is-above : (v w : Vcpu) → Above v w → above v w ≡ true
 is-above v w p = rw (p .0, urgent (w .terms) (v .terms) (p .1))
 
--- "The earlier of `now` + the chosen one's usable ticks and the earliest pending return of any runnable VCPU more urgent than it."
+-- "The earlier of `now` + the chosen one's usable ticks and the earliest pending return of any runnable VCPU more urgent than it.";
+-- "and also at the running VCPU's own next boundary"
 pub while-running : (now : ℕ) (vs : List Vcpu) (v : Vcpu) → (t : ℕ) × (timer now vs (some v) ≡ some t) × TimerWhile now vs v t
 unfolding timer
-while-running now vs v = (_, refl, earlier-says now vs v _ _ (omega arith) (is-above v) (above-says v))
+while-running now vs v = (_, refl, go _ (earliest-says ((now + v .usable) ∷ times (v .boundary) ++ nexts (keep (above v) vs)) _ refl))
+  where
+    go : (t : ℕ)
+        → Among t ((now + v .usable) ∷ times (v .boundary) ++ nexts (keep (above v) vs)) ×
+        All (λ u. t ≤ u) ((now + v .usable) ∷ times (v .boundary) ++ nexts (keep (above v) vs))
+        → TimerWhile now vs v t
+    go t (m, h) =
+        let p = all-append (λ u. t ≤ u) (times (v .boundary)) (nexts (keep (above v) vs)) (h .1) in
+        record {
+          in-time = h .0;
+          before-own = λ b e. all-among (λ u. t ≤ u) (times (v .boundary)) (p .0) b (times-among (v .boundary) b e);
+          before-next = none-before-of (Above v) (above v) (above-says v) (is-above v) vs t (p .1);
+          one-of-them = ⊎-elim inl (λ k. inr (named k)) m;
+        }
+      where
+        named : Among t (times (v .boundary) ++ nexts (keep (above v) vs)) → (v .boundary ≡ some t) ⊎ Next (Above v) vs t
+        named k =
+            ⊎-elim (λ n. inl (among-times (v .boundary) t n)) (λ n. inr (next-of (Above v) (above v) (above-says v) (is-above v) vs t n))
+            (among-append (times (v .boundary)) (nexts (keep (above v) vs)) t k)

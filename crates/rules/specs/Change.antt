@@ -1,10 +1,10 @@
--- Document 01, step 3: admit, wake, block or remove.
+-- Document 01, step 3: admit, wake, block or remove. A polling VCPU that is left not runnable loses its ticks (02, No. 1).
 -- Assumes nothing.
 use Prim.Native.Nat.{ℕ}
 use mathlib.Core.Bool.{Bool, true, false, cond, not}
 use mathlib.Core.List.{List, [], _∷_}
 use Rattle.rules.specs.Lists.{keep}
-use Rattle.rules.specs.Vcpu.{Description, Vcpu, admitted, moreUrgent, named}
+use Rattle.rules.specs.Vcpu.{Description, Vcpu, leaves, admitted, moreUrgent, named}
 use Rattle.rules.specs.Card.{toNamed}
 
 -- what a call asks for; each but the tick names an identifier
@@ -21,14 +21,22 @@ abbrev pub placed : Vcpu → List Vcpu → List Vcpu
 placed v [] = v ∷ []
 placed v (w ∷ ws) = cond (moreUrgent (v .terms) (w .terms)) (v ∷ w ∷ ws) (w ∷ placed v ws)
 
--- waking a runnable VCPU or blocking one that isn't changes nothing
+-- Waking a runnable VCPU or blocking one that isn't changes nothing, on the cards that calls make: a polling VCPU that is not runnable has
+-- no usable ticks there (`polling-waits` of Meaning).
 abbrev pub setRunnable : Bool → Vcpu → Vcpu
 setRunnable runnable v =
-    record { terms = v .terms; runnable = runnable; usable = v .usable; ended = v .ended; pending = v .pending }
+    record {
+      terms = v .terms;
+      runnable = runnable;
+      usable = leaves (v .terms) runnable (v .usable);
+      ended = v .ended;
+      pending = v .pending;
+      boundary = v .boundary;
+    }
 
-abbrev pub change : Change → List Vcpu → List Vcpu
-change (admit d) vs = placed (admitted d) vs
-change (wake tunnel) vs = toNamed tunnel (setRunnable true) vs
-change (block tunnel) vs = toNamed tunnel (setRunnable false) vs
-change (remove tunnel) vs = keep (λ v. not (named tunnel v)) vs
-change tick vs = vs
+abbrev pub change : ℕ → Change → List Vcpu → List Vcpu
+change now (admit d) vs = placed (admitted now d) vs
+change now (wake tunnel) vs = toNamed tunnel (setRunnable true) vs
+change now (block tunnel) vs = toNamed tunnel (setRunnable false) vs
+change now (remove tunnel) vs = keep (λ v. not (named tunnel v)) vs
+change now tick vs = vs

@@ -1,4 +1,4 @@
--- Document 01, step 1: charge the VCPU that held the core since `last`.
+-- Document 01, step 1: charge the VCPU that held the core since `last`. A deferrable or polling one has no queue (02, No. 1).
 -- Assumes nothing.
 use Prim.Native.Nat.{ℕ, _+_, _-_}
 use mathlib.Core.Bool.{Bool, true, false, cond, not, _&&_}
@@ -7,7 +7,7 @@ use mathlib.Core.Option.{Option, none, some}
 use lib.Dec.{leb, eqb}
 use lib.ListN.{length}
 use Rattle.rules.specs.Limits.{mostPending}
-use Rattle.rules.specs.Vcpu.{Entry, Vcpu}
+use Rattle.rules.specs.Vcpu.{Entry, Vcpu, isSporadic}
 use Rattle.rules.specs.Card.{toNamed}
 
 -- change the queue's last entry
@@ -47,15 +47,16 @@ posted last d v =
 abbrev pub noTicks : ℕ → ℕ → Bool
 noTicks last now = eqb (now - last) 0
 
--- it loses `now - last` usable ticks, they become a pending return, and its use now ends at `now`
+-- it loses `now - last` usable ticks; of a sporadic one they become a pending return, and its use now ends at `now`
 abbrev pub chargedSome : ℕ → ℕ → Vcpu → Vcpu
 chargedSome last now v =
     record {
       terms = v .terms;
       runnable = v .runnable;
       usable = v .usable - (now - last);
-      ended = now;
-      pending = posted last (now - last) v;
+      ended = cond (isSporadic (v .terms)) now (v .ended);
+      pending = cond (isSporadic (v .terms)) (posted last (now - last) v) (v .pending);
+      boundary = v .boundary;
     }
 
 -- the VCPU that held the core from `last` to `now`

@@ -1,10 +1,10 @@
 -- Demand 3, sentence by sentence, of what a host hears and of the VCPUs on the card after any calls from the empty card.
 -- Proved for every list of calls in proofs/Demand3. What holds of the card alone is in Meaning. Assumes nothing.
-use Prim.Native.Nat.{ℕ, _+_, _≤_}
+use Prim.Native.Nat.{ℕ, _+_, _*_, _≤_}
 use mathlib.Core.Path.{_≡_}
 use mathlib.Core.Bool.{Bool, true, false, not, _&&_, _||_}
 use mathlib.Core.List.{List, [], _∷_}
-use mathlib.Core.Option.{none}
+use mathlib.Core.Option.{none, some}
 use lib.Dec.{leb, ltb, eqb}
 use lib.ListN.{length}
 use Rattle.rules.specs.Limits.{mostPending}
@@ -12,15 +12,30 @@ use Rattle.rules.specs.Lists.{any, count, sum, All, Among}
 use Rattle.rules.specs.Vcpu.{Vcpu}
 use Rattle.rules.specs.Card.{Card}
 use Rattle.rules.specs.Turn.{Call}
+use Rattle.rules.specs.Meaning.{Sporadic, Deferrable, Polling}
 use Rattle.rules.specs.History.{Exchange, after, heard, time, holder, past, isRunnable, idleTicks}
 use Rattle.rules.specs.Stays.{Stay, lasts, lastsAs, stays, owns, held, heldTicks, window, EachTick, owners}
 use Rattle.rules.specs.Slices.{Slice, slices, recent, ticksOf, returnsOf, everFolds}
+use Rattle.rules.specs.Boundaries.{heldBetween, boundary, latest, hasRefill}
+
+-- a deferrable or polling stay
+abbrev pub Refills : Stay → Type 0
+Refills s = Sporadic (s .terms) → ⊥
 
 -- (a) "in any window as long as a tenant's period, within one stay and up to the last accepted call, it held the core for at most its
 -- capacity, counted from the history and not from stored sums"
 abbrev pub AtMostCapacity : List Exchange → Stay → Type 0
 AtMostCapacity xs s =
     (before : ℕ) → heldTicks (window (s .terms .period) before (held s (past xs))) ≤ s .terms .capacity
+
+-- (a) of the other kinds: "at most C from one boundary to the next", and from its admission to the first,
+abbrev pub AtMostOnce : List Exchange → Stay → Type 0
+AtMostOnce xs s = (k : ℕ) → heldBetween (boundary s k) (boundary s (k + 1)) (held s (past xs)) ≤ s .terms .capacity
+
+-- .. "at most 2C in any window of T"
+abbrev pub AtMostTwice : List Exchange → Stay → Type 0
+AtMostTwice xs s =
+    (before : ℕ) → heldTicks (window (s .terms .period) before (held s (past xs))) ≤ 2 * s .terms .capacity
 
 -- this stay's slices
 abbrev pub slicesOf : List Exchange → Stay → List Slice
@@ -43,6 +58,23 @@ UsableBudget xs s v = NeverFolded xs s → v .usable + ticksOf (recentOf xs s) �
 abbrev pub PendingSlices : List Exchange → Stay → Vcpu → Type 0
 PendingSlices xs s v = NeverFolded xs s → v .pending ≡ returnsOf (s .terms .period) (recentOf xs s)
 
+-- the ticks that this stay held since its latest boundary, or its admission
+abbrev pub heldSince : List Exchange → Stay → ℕ
+heldSince xs s = heldBetween (latest s (time xs)) (time xs) (held s (past xs))
+
+-- (b) of a deferrable VCPU: its usable ticks are C less those that it held since its latest boundary
+abbrev pub Unused : List Exchange → Stay → Vcpu → Type 0
+Unused xs s v = v .usable + heldSince xs s ≡ s .terms .capacity
+
+-- (b) of a polling one: the same where it has its refill, else none
+pub record Polled (xs : List Exchange) (s : Stay) (v : Vcpu) : Type 0 where
+  pub refilled : hasRefill s xs ≡ true → Unused xs s v
+  pub not-refilled : hasRefill s xs ≡ false → v .usable ≡ 0
+
+-- its next boundary is the one after the latest
+abbrev pub NextBoundary : List Exchange → Stay → Vcpu → Type 0
+NextBoundary xs s v = v .boundary ≡ some (latest s (time xs) + s .terms .period)
+
 -- of a stay that lasts, a fact of the VCPU on the card that has its identifier
 abbrev pub OfItsVcpu : List Call → (Stay → Vcpu → Type 0) → Stay → Type 0
 OfItsVcpu calls P s =
@@ -54,9 +86,14 @@ pub record ItsStay (xs : List Exchange) (v : Vcpu) : Type 0 where
   pub one-of-them : Among stay (stays xs)
   pub lasting : stay .until ≡ none
   pub same-terms : v .terms ≡ stay .terms
-  pub at-most-capacity : AtMostCapacity xs stay
-  pub usable-budget : UsableBudget xs stay v
-  pub pending-slices : PendingSlices xs stay v
+  pub at-most-capacity : Sporadic (stay .terms) → AtMostCapacity xs stay
+  pub usable-budget : Sporadic (stay .terms) → UsableBudget xs stay v
+  pub pending-slices : Sporadic (stay .terms) → PendingSlices xs stay v
+  pub at-most-once : Refills stay → AtMostOnce xs stay
+  pub at-most-twice : Refills stay → AtMostTwice xs stay
+  pub next-boundary : Refills stay → NextBoundary xs stay v
+  pub unused : Deferrable (stay .terms) → Unused xs stay v
+  pub polled : Polling (stay .terms) → Polled xs stay v
 
 -- "Else, if 8 are pending, it folds": 8 are pending, and its previous use did not end at `last`
 abbrev pub hasToFold : ℕ → Vcpu → Bool
@@ -77,12 +114,19 @@ folded (call ∷ calls) s = folded calls s || foldsAt (after calls) (after (call
 pub record Demand3 (calls : List Call) : Type 0 where
   -- the history has one holder for each tick up to the last accepted call
   pub each-tick : length (past (heard calls)) ≡ time (heard calls)
-  -- (a) for every stay, ended ones included; (b) for every stay that lasts
-  pub at-most-capacity : All (AtMostCapacity (heard calls)) (stays (heard calls))
-  pub usable-budget : All (OfItsVcpu calls (UsableBudget (heard calls))) (stays (heard calls))
-  pub pending-slices : All (OfItsVcpu calls (PendingSlices (heard calls))) (stays (heard calls))
-  -- what the history says of folding is what the queue on the card did, for every stay
-  pub folds-exactly : All (λ s. everFolds (s .terms .period) (slicesOf (heard calls) s) ≡ folded calls s) (stays (heard calls))
+  -- (a) for every sporadic stay, ended ones included; (b) for every one that lasts
+  pub at-most-capacity : All (λ s. Sporadic (s .terms) → AtMostCapacity (heard calls) s) (stays (heard calls))
+  pub usable-budget : All (OfItsVcpu calls (λ s v. Sporadic (s .terms) → UsableBudget (heard calls) s v)) (stays (heard calls))
+  pub pending-slices : All (OfItsVcpu calls (λ s v. Sporadic (s .terms) → PendingSlices (heard calls) s v)) (stays (heard calls))
+  -- what the history says of folding is what the queue on the card did, for every sporadic stay
+  pub folds-exactly :
+      All (λ s. Sporadic (s .terms) → everFolds (s .terms .period) (slicesOf (heard calls) s) ≡ folded calls s) (stays (heard calls))
+  -- (a) for every deferrable or polling stay, ended ones included; (b) for every one that lasts
+  pub at-most-once : All (λ s. Refills s → AtMostOnce (heard calls) s) (stays (heard calls))
+  pub at-most-twice : All (λ s. Refills s → AtMostTwice (heard calls) s) (stays (heard calls))
+  pub next-boundary : All (OfItsVcpu calls (λ s v. Refills s → NextBoundary (heard calls) s v)) (stays (heard calls))
+  pub unused : All (OfItsVcpu calls (λ s v. Deferrable (s .terms) → Unused (heard calls) s v)) (stays (heard calls))
+  pub polled : All (OfItsVcpu calls (λ s v. Polling (s .terms) → Polled (heard calls) s v)) (stays (heard calls))
   -- (c) each tick belongs to one stay or to idle, and together they add up to the time of the last accepted call
   pub one-owner : EachTick (λ holder at. owners (stays (heard calls)) holder at ≡ 1) (past (heard calls))
   pub adds-up :

@@ -1,7 +1,8 @@
--- Document 01's rules for turns, one file a concern, in the order of the document: the numbers of the card (Limits), words on lists
--- (Lists), a VCPU (Vcpu), the card (Card), the five steps of an accepted call (Charge, Return, Change, Choose, Timer), the refusals
--- (Refuse), the calls and their replies (Turn); then what these mean in plain facts (Meaning, Rows, Marks, Budgets), and what demand 3
--- speaks of (History, Stays, Slices, Demand3). Moments, amounts and identifiers are plain numbers here. Assumes nothing.
+-- The rules of documents 01 and 02 for turns, one file a concern, in the order of the document: the numbers of the card (Limits), words
+-- on lists (Lists), a VCPU (Vcpu), the card (Card), the five steps of an accepted call (Charge, Return, Change, Choose, Timer), the
+-- refusals (Refuse), the calls and their replies (Turn); then what these mean in plain facts (Meaning, Rows, Marks, Budgets), and what
+-- demand 3 speaks of (History, Stays, Slices, Boundaries, Demand3). Moments, amounts and identifiers are plain numbers here. Assumes
+-- nothing.
 pub mod Limits
 pub mod Lists
 pub mod Vcpu
@@ -20,4 +21,5 @@ pub mod Budgets
 pub mod History
 pub mod Stays
 pub mod Slices
+pub mod Boundaries
 pub mod Demand3

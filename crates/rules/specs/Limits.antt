@@ -15,6 +15,10 @@ largestTunnel = 16_777_215
 abbrev pub largestPeriod : ℕ
 largestPeriod = 1_000_000
 
+-- kinds of VCPU: 0 sporadic, 1 deferrable, 2 polling
+abbrev pub largestKind : ℕ
+largestKind = 2
+
 -- VCPUs on the card
 abbrev pub mostVcpus : ℕ
 mostVcpus = 32

@@ -1,4 +1,4 @@
--- What steps 4 and 5 and the numbers of the card mean, as facts of a card, and that its budgets add up.
+-- What the kinds, steps 4 and 5 and the numbers of the card mean, as facts of a card, and what it keeps of each VCPU's budget.
 -- Proved of the card after any calls in proofs/Meaning. Assumes nothing.
 use Prim.Native.Nat.{ℕ, _+_, _≤_, _<_}
 use mathlib.Core.Path.{_≡_}
@@ -14,6 +14,16 @@ use Rattle.rules.specs.Vcpu.{Description, Entry, Vcpu}
 use Rattle.rules.specs.Card.{Card, onCard, find}
 use Rattle.rules.specs.Turn.{report}
 
+-- "Admit gains a kind: 0 sporadic (as now), 1 deferrable, 2 polling."
+abbrev pub Sporadic : Description → Type 0
+Sporadic d = d .kind ≡ 0
+
+abbrev pub Deferrable : Description → Type 0
+Deferrable d = d .kind ≡ 1
+
+abbrev pub Polling : Description → Type 0
+Polling d = d .kind ≡ 2
+
 -- "smaller is more urgent; at equal priority the smaller identifier is"
 abbrev pub MoreUrgent : Description → Description → Type 0
 MoreUrgent a b = (a .priority < b .priority) ⊎ ((a .priority ≡ b .priority) × (a .tunnel < b .tunnel))
@@ -25,18 +35,21 @@ pub record MayRun (vs : List Vcpu) (v : Vcpu) : Type 0 where
   pub has-ticks : 0 < v .usable
   pub most-urgent : All (λ w. w .runnable ≡ true → 0 < w .usable → MoreUrgent (w .terms) (v .terms) → ⊥) vs
 
--- the moment is the time of a pending return of such a VCPU
-pub record Returns (Such : Vcpu → Type 0) (vs : List Vcpu) (t : ℕ) : Type 0 where
+-- something comes to the VCPU at the moment: a pending return, or its next boundary
+pub data Comes (v : Vcpu) : ℕ → Type 0 where
+  return : (e : Entry) → Among e (v .pending) → Comes v (e .due)
+  boundary : (b : ℕ) → v .boundary ≡ some b → Comes v b
+
+-- the moment is one at which something comes to such a VCPU
+pub record Next (Such : Vcpu → Type 0) (vs : List Vcpu) (t : ℕ) : Type 0 where
   pub who : Vcpu
-  pub which : Entry
   pub on-card : Among who vs
   pub is-such : Such who
-  pub pends : Among which (who .pending)
-  pub then : t ≡ which .due
+  pub comes : Comes who t
 
--- no such VCPU has a pending return before the moment
+-- nothing comes to such a VCPU before the moment
 abbrev pub NoneBefore : (Vcpu → Type 0) → List Vcpu → ℕ → Type 0
-NoneBefore Such vs t = All (λ w. Such w → All (λ e. t ≤ e .due) (w .pending)) vs
+NoneBefore Such vs t = All (λ w. Such w → (u : ℕ) → Comes w u → t ≤ u) vs
 
 abbrev pub Runnable : Vcpu → Type 0
 Runnable w = w .runnable ≡ true
@@ -45,11 +58,13 @@ Runnable w = w .runnable ≡ true
 abbrev pub Above : Vcpu → Vcpu → Type 0
 Above v w = Runnable w × MoreUrgent (w .terms) (v .terms)
 
--- "The earlier of `now` + the chosen one's usable ticks and the earliest pending return of any runnable VCPU more urgent than it."
+-- "The earlier of `now` + the chosen one's usable ticks and the earliest pending return of any runnable VCPU more urgent than it.";
+-- "the next boundary where it looked at the earliest return, and also at the running VCPU's own next boundary"
 pub record TimerWhile (now : ℕ) (vs : List Vcpu) (v : Vcpu) (t : ℕ) : Type 0 where
   pub in-time : t ≤ now + v .usable
-  pub before-returns : NoneBefore (Above v) vs t
-  pub one-of-them : (t ≡ now + v .usable) ⊎ Returns (Above v) vs t
+  pub before-own : (b : ℕ) → v .boundary ≡ some b → t ≤ b
+  pub before-next : NoneBefore (Above v) vs t
+  pub one-of-them : (t ≡ now + v .usable) ⊎ (v .boundary ≡ some t) ⊎ Next (Above v) vs t
 
 -- "Numbers of the card"
 pub record InRange (d : Description) : Type 0 where
@@ -58,6 +73,7 @@ pub record InRange (d : Description) : Type 0 where
   pub period-high : d .period ≤ largestPeriod
   pub capacity-low : 1 ≤ d .capacity
   pub capacity-high : d .capacity ≤ d .period
+  pub kind-high : d .kind ≤ 2
 
 -- a VCPU on the card has the identifier, all 24 bits of it
 abbrev pub OnTheCard : List Vcpu → ℕ → Type 0
@@ -70,6 +86,13 @@ abbrev pub Sorted : List Entry → Type 0
 Sorted [] = Unit {0}
 Sorted (e ∷ q) = All (λ f. e .due ≤ f .due) q × Sorted q
 
+-- what the kinds keep: a sporadic VCPU its queue, and "Usable plus pending equals C after every accepted call." A deferrable or polling
+-- one no queue and no end of use; its next boundary is to come, within one period, and it has at most C usable
+pub data Keeps (last : ℕ) (v : Vcpu) : Type 0 where
+  sporadic : Sporadic (v .terms) → v .boundary ≡ none → v .usable + pendingTicks v ≡ v .terms .capacity → Keeps last v
+  refilled : (Sporadic (v .terms) → ⊥) → (b : ℕ) → v .boundary ≡ some b → last < b → b ≤ last + v .terms .period
+      → v .pending ≡ [] → v .ended ≡ 0 → v .usable ≤ v .terms .capacity → Keeps last v
+
 pub record Meaning (c : Card) : Type 0 where
   -- the one that runs is the one that may, and it has the timer
   pub runs : (v : Vcpu) → MayRun (c .vcpus) v ↔ (Among v (c .vcpus) × (c .running ≡ some (v .terms .tunnel)))
@@ -77,7 +100,7 @@ pub record Meaning (c : Card) : Type 0 where
   -- "if there is none, idle. In idle: the earliest pending return of any runnable VCPU."
   pub idle : c .running ≡ none ↔ All (λ v. v .runnable ≡ true → v .usable ≡ 0) (c .vcpus)
   pub idle-timer : c .running ≡ none → (t : ℕ) → c .timer ≡ some t
-      → Returns Runnable (c .vcpus) t × NoneBefore Runnable (c .vcpus) t
+      → Next Runnable (c .vcpus) t × NoneBefore Runnable (c .vcpus) t
   -- "If nobody is runnable, there is no timer."
   pub no-timer : c .timer ≡ none ↔ All (λ v. v .runnable ≡ false) (c .vcpus)
   -- nobody runs who is not on the card, and an identifier stands there at most once
@@ -90,8 +113,12 @@ pub record Meaning (c : Card) : Type 0 where
   pub reports-card : (report c .time ≡ c .last) × (report c .run ≡ c .running) × (report c .timer ≡ c .timer)
   pub reports : (v : Vcpu) → MayRun (c .vcpus) v → report c .usable ≡ v .usable
   pub reports-idle : c .running ≡ none → report c .usable ≡ 0
-  -- "Usable plus pending equals C after every accepted call."
-  pub whole : All (λ v. v .usable + pendingTicks v ≡ v .terms .capacity) (c .vcpus)
+  -- what stands on the card is one of the three kinds, and nothing else
+  pub one-of-three : All (λ v. Sporadic (v .terms) ⊎ Deferrable (v .terms) ⊎ Polling (v .terms)) (c .vcpus)
+  -- "Usable plus pending equals C after every accepted call", of the sporadic ones; and the boundaries of the others
+  pub keeps : All (Keeps (c .last)) (c .vcpus)
+  -- a polling VCPU that is not runnable has no usable ticks
+  pub polling-waits : All (λ v. Polling (v .terms) → v .runnable ≡ false → v .usable ≡ 0) (c .vcpus)
   -- the return queue is sorted, and what is pending is still to come
   pub sorted : All (λ v. Sorted (v .pending)) (c .vcpus)
   pub to-come : All (λ v. All (λ e. c .last < e .due) (v .pending)) (c .vcpus)

@@ -1,12 +1,12 @@
--- Document 01, "Reply numbers", rows 1 to 8: the first row from the top that applies. Rows states the same in plain facts.
--- Assumes nothing.
+-- Document 01, "Reply numbers", rows 1 to 8, and row 10 of document 02, No. 1: the first row from the top that applies.
+-- Rows states the same in plain facts. Assumes nothing.
 use Prim.Native.Nat.{ℕ}
 use mathlib.Core.Bool.{Bool, cond, not}
 use mathlib.Core.List.{List}
 use mathlib.Core.Option.{Option, none, some}
 use lib.Dec.{leb, ltb}
 use lib.ListN.{length}
-use Rattle.rules.specs.Limits.{largestTime, largestTunnel, mostVcpus, inRange}
+use Rattle.rules.specs.Limits.{largestTime, largestTunnel, largestKind, mostVcpus, inRange}
 use Rattle.rules.specs.Vcpu.{Description, Vcpu}
 use Rattle.rules.specs.Card.{Card, onCard}
 use Rattle.rules.specs.Change.{Change, admit, wake, block, remove, tick}
@@ -45,9 +45,10 @@ abbrev pub admitRows : List Vcpu → Description → Option Refusal
 admitRows vs d =
     row (above24Bits (d .tunnel)) 4 0
     (row (not (inRange (d .period) (d .capacity))) 5 0
+    (row (ltb largestKind (d .kind)) 10 0
     (row (onCard (d .tunnel) vs) 6 0
     (row (leb mostVcpus (length vs)) 8 0
-    none)))
+    none))))
 
 -- wake, block, remove
 abbrev pub namingRows : List Vcpu → ℕ → Option Refusal

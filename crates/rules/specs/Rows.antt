@@ -1,17 +1,20 @@
--- Document 01, "Reply numbers", rows 1 to 8, as plain facts: where each applies, and that the first from the top that does is given.
+-- Document 01, "Reply numbers", rows 1 to 8, and row 10 of document 02, as plain facts: where each applies, and that the first from
+-- the top that does is given.
 -- Proved of every card and every call in proofs/Rows. Assumes nothing.
 use Prim.Native.Nat.{ℕ, _≤_, _<_}
 use mathlib.Core.Path.{_≡_}
+use mathlib.Core.List.{List, [], _∷_}
 use mathlib.Core.Logic.{_⊎_, _↔_}
 use mathlib.Core.Option.{some}
 use lib.ListN.{length}
 use Rattle.rules.specs.Limits.{largestTime, largestTunnel, largestPeriod, mostVcpus}
+use Rattle.rules.specs.Lists.{Among}
 use Rattle.rules.specs.Vcpu.{Description}
 use Rattle.rules.specs.Card.{Card}
 use Rattle.rules.specs.Change.{Change, admit, wake, block, remove}
 use Rattle.rules.specs.Refuse.{Refusal}
 use Rattle.rules.specs.Turn.{Call, ok, refused, turn, accepted, report}
-use Rattle.rules.specs.Meaning.{OnTheCard}
+use Rattle.rules.specs.Meaning.{Sporadic, Deferrable, Polling, OnTheCard}
 
 -- an admit of this identifier
 abbrev pub AdmitOf : Change → ℕ → Type 0
@@ -36,6 +39,8 @@ pub data Row (c : Card) (call : Call) : ℕ → ℕ → Type 0 where
   -- "admit: period or capacity out of range"
   row-5 : (d : Description) → call .asked ≡ admit d
       → OutOfRange 1 largestPeriod (d .period) ⊎ OutOfRange 1 (d .period) (d .capacity) → Row c call 5 0
+  -- "10, unknown kind, after 5"
+  row-10 : (d : Description) → call .asked ≡ admit d → (Sporadic d → ⊥) → (Deferrable d → ⊥) → (Polling d → ⊥) → Row c call 10 0
   -- "admit: identifier is on the card"
   row-6 : (d : Description) → call .asked ≡ admit d → OnTheCard (c .vcpus) (d .tunnel) → Row c call 6 0
   -- "wake, block, remove: identifier is not on the card"
@@ -43,10 +48,19 @@ pub data Row (c : Card) (call : Call) : ℕ → ℕ → Type 0 where
   -- "admit: 32 VCPUs are on the card"
   row-8 : (d : Description) → call .asked ≡ admit d → mostVcpus ≤ length (c .vcpus) → Row c call 8 0
 
--- "the first from the top that applies is given"; rows 1 to 8 stand in the order of their numbers
+-- the rows from the top
+abbrev pub order : List ℕ
+order = 1 ∷ 2 ∷ 3 ∷ 4 ∷ 5 ∷ 10 ∷ 6 ∷ 7 ∷ 8 ∷ []
+
+-- the row n stands above the row m
+abbrev pub Higher : ℕ → ℕ → List ℕ → Type 0
+Higher n m [] = ⊥
+Higher n m (top ∷ rest) = ((n ≡ top) × Among m rest) ⊎ Higher n m rest
+
+-- "the first from the top that applies is given"
 pub record First (c : Card) (call : Call) (number detail : ℕ) : Type 0 where
   pub applies : Row c call number detail
-  pub none-above : (n d : ℕ) → n < number → Row c call n d → ⊥
+  pub none-above : (n d : ℕ) → Higher n number order → Row c call n d → ⊥
 
 abbrev pub NoRow : Card → Call → Type 0
 NoRow c call = (number detail : ℕ) → Row c call number detail → ⊥

@@ -1,4 +1,4 @@
--- Document 01, step 5: the timer.
+-- Document 01, step 5: the timer; with the boundaries of document 02, No. 1.
 -- Assumes nothing.
 use Prim.Native.Nat.{ℕ, _+_, min}
 use mathlib.Core.Bool.{Bool, _&&_}
@@ -15,10 +15,22 @@ abbrev pub earliest : List ℕ → Option ℕ
 earliest [] = none
 earliest (t ∷ ts) = some (earlier t (earliest ts))
 
--- the times of all pending returns of these VCPUs
-abbrev pub returns : List Vcpu → List ℕ
-returns [] = []
-returns (v ∷ vs) = map (λ e. e .due) (v .pending) ++ returns vs
+abbrev pub times : Option ℕ → List ℕ
+times none = []
+times (some t) = t ∷ []
+
+-- the times at which something comes to a VCPU: its pending returns, or its next boundary
+abbrev pub comes : Vcpu → List ℕ
+comes v = map (λ e. e .due) (v .pending) ++ times (v .boundary)
+
+-- the next time that something comes to it
+abbrev pub next : Vcpu → Option ℕ
+next v = earliest (comes v)
+
+-- .., and to each of these VCPUs
+abbrev pub nexts : List Vcpu → List ℕ
+nexts [] = []
+nexts (v ∷ vs) = times (next v) ++ nexts vs
 
 abbrev pub runnable : Vcpu → Bool
 runnable w = w .runnable
@@ -29,6 +41,7 @@ above v w = w .runnable && moreUrgent (w .terms) (v .terms)
 
 unfoldable pub timer : ℕ → List Vcpu → Option Vcpu → Option ℕ
 -- "In idle: the earliest pending return of any runnable VCPU. If nobody is runnable, there is no timer."
-timer now vs none = earliest (returns (keep runnable vs))
--- "The earlier of `now` + the chosen one's usable ticks and the earliest pending return of any runnable VCPU more urgent than it."
-timer now vs (some v) = some (earlier (now + v .usable) (earliest (returns (keep (above v) vs))))
+timer now vs none = earliest (nexts (keep runnable vs))
+-- "The earlier of `now` + the chosen one's usable ticks and the earliest pending return of any runnable VCPU more urgent than it.";
+-- "the next boundary where it looked at the earliest return, and also at the running VCPU's own next boundary"
+timer now vs (some v) = some (earlier (now + v .usable) (earliest (times (v .boundary) ++ nexts (keep (above v) vs))))

@@ -39,7 +39,7 @@ abbrev pub afterReturn : Card → ℕ → List Vcpu
 afterReturn c now = bring now (afterCharge c now)
 
 abbrev pub afterChange : Card → Call → List Vcpu
-afterChange c call = change (call .asked) (afterReturn c (call .now))
+afterChange c call = change (call .now) (call .asked) (afterReturn c (call .now))
 
 -- steps 4 and 5: choose and timer
 unfoldable pub settled : ℕ → List Vcpu → Card

@@ -1,16 +1,25 @@
--- Document 01: what admit says of a VCPU, what the card keeps of it, and which of two is more urgent.
+-- Documents 01 and 02 (No. 1): what admit says of a VCPU, what the card keeps of it, and which of two is more urgent.
 -- Assumes nothing.
-use Prim.Native.Nat.{ℕ}
-use mathlib.Core.Bool.{Bool, false, _&&_, _||_}
+use Prim.Native.Nat.{ℕ, _+_}
+use mathlib.Core.Bool.{Bool, false, cond, not, _&&_, _||_}
 use mathlib.Core.List.{List, []}
+use mathlib.Core.Option.{Option, none, some}
 use lib.Dec.{ltb, eqb}
 
--- the whole VCPU description that an admit carries: identifier, period T, capacity C, priority
+-- the whole VCPU description that an admit carries: identifier, period T, capacity C, priority, and the kind as the byte asked for
 pub record Description : Type 0 where
   pub tunnel : ℕ
   pub period : ℕ
   pub capacity : ℕ
   pub priority : ℕ
+  pub kind : ℕ
+
+-- "0 sporadic (as now), 1 deferrable, 2 polling"; another is unknown and never admitted (row 10)
+abbrev pub isSporadic : Description → Bool
+isSporadic d = eqb (d .kind) 0
+
+abbrev pub isPolling : Description → Bool
+isPolling d = eqb (d .kind) 2
 
 -- a pending return: so many ticks, due at that moment
 pub record Entry : Type 0 where
@@ -18,16 +27,32 @@ pub record Entry : Type 0 where
   pub amount : ℕ
 
 -- `ended` is the end of its latest use; 0 stands for no earlier use, since a use ends at 1 or later. `pending` has the oldest first.
+-- A deferrable or polling VCPU has no queue: `ended` and `pending` stay as they were at admission. `boundary` is its next one; on the
+-- card it is there exactly for deferrable and polling VCPUs (`keeps` of Meaning), so steps 2 and 5 ask for it and not for the kind.
 pub record Vcpu : Type 0 where
   pub terms : Description
   pub runnable : Bool
   pub usable : ℕ
   pub ended : ℕ
   pub pending : List Entry
+  pub boundary : Option ℕ
 
--- "An admitted VCPU starts not runnable, with C usable, nothing pending and no earlier use"
-abbrev pub admitted : Description → Vcpu
-admitted d = record { terms = d; runnable = false; usable = d .capacity; ended = 0; pending = [] }
+-- of a polling VCPU "any call that leaves it not runnable, its admission too, takes its usable ticks away"
+abbrev pub leaves : Description → Bool → ℕ → ℕ
+leaves d runnable ticks = cond (isPolling d && not runnable) 0 ticks
+
+-- "An admitted VCPU starts not runnable, with C usable, nothing pending and no earlier use"; the first boundary of a deferrable or
+-- polling one is T after its admission
+abbrev pub admitted : ℕ → Description → Vcpu
+admitted now d =
+    record {
+      terms = d;
+      runnable = false;
+      usable = leaves d false (d .capacity);
+      ended = 0;
+      pending = [];
+      boundary = cond (isSporadic d) none (some (now + d .period));
+    }
 
 -- smaller is more urgent; at equal priority the smaller identifier is
 unfoldable pub moreUrgent : Description → Description → Bool

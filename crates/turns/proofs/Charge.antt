@@ -3,6 +3,7 @@ use Prim.Native.Nat.{ℕ, suc, _+_, _-_, _≤_, _<_}
 use mathlib.Core.Path.{_≡_, refl, ap, sym, _∙_}
 use mathlib.Core.Bool.{Bool, true, false, cond, not, _&&_}
 use mathlib.Core.List.{List, [], _∷_, _++_}
+use mathlib.Core.Option.{none}
 use native.Mathlib.Omega.{arith}
 use lib.Dec.{leb, ltb, eqb}
 use lib.ListN.{length, getD, set, length-append}
@@ -11,16 +12,18 @@ use borrow.Author.Tests.{eqb-true, eqb-false, eq-eqb, ne-eqb, lt-ltb, leb-true, 
 use Rattle.units.specs.Units.{moment, amount, later}
 use Rattle.units.specs.declared.Moment.{Moment}
 use Rattle.units.specs.declared.Amount.{Amount}
-use Rattle.rules.specs.Vcpu.{Entry}
+use Rattle.rules.specs.Vcpu.{Entry, isSporadic}
 use Rattle.rules.specs.Vcpu.{Vcpu as Tenant}
 use Rattle.rules.specs.Charge.{toLast, waiting, joins, posted, charged}
 use Rattle.rules.proofs.Tests.{clash, and-true}
 use Rattle.rules.proofs.Queue.{same-length}
 use Rattle.turns.specs.declared.Vcpu.{Vcpu}
 use Rattle.turns.specs.Laid.{laid}
-use Rattle.turns.specs.Written.{never, dueOf, amountOf, written}
-use Rattle.turns.specs.Steps.{queueAs, usedAs, joinsOf, joinedOf, foldedOf, appendedOf, postedOf, chargedOf}
+use Rattle.turns.specs.Written.{never, amountOf, kindAs, written}
+use Rattle.turns.specs.Steps.{hasQueue, queueAs, endedAs, tookOf, joinsOf, withMore, joinedOf, foldedOf, appendedOf}
+use Rattle.turns.specs.Steps.{postedOf, spentOf, chargedOf}
 use Rattle.turns.proofs.Laid.{laid-get, laid-set, laid-end}
+use Rattle.turns.proofs.Written.{dueOf, withQueue, as-queue, kind-queue}
 
 abbrev noEntry : Entry
 noEntry = record { due = 0; amount = 0 }
@@ -45,7 +48,7 @@ module _ (f : Entry → Entry) (q : List Entry) (h : 0 < length q) (g : length q
   last-due : moment ((getD q (length q - 1) noEntry) .due) ≡ getD (laid 8 dueOf (moment never) q) (length q - 1) (moment 0)
   last-due = sym (laid-get dueOf (moment never) 8 q (length q - 1) noEntry (moment 0) (omega arith) g)
 
-joins-same : (last : ℕ) (v : Tenant) → joinsOf (written v) (moment last) ≡ joins last v
+joins-same : (last : ℕ) (v : Tenant) → joinsOf (withQueue v (v .pending)) (moment last) ≡ joins last v
 unfolding written
 joins-same last v = go (v .pending) (eqb (v .ended) last)
   where
@@ -59,10 +62,6 @@ waits-some : (q : List Entry) → waiting q ≡ true → 0 < length q
 waits-some [] e = clash (sym e)
 waits-some (x ∷ q) e = omega arith
 
--- the record whose queue is q
-abbrev withQueue : Tenant → List Entry → Vcpu
-withQueue v q = queueAs (written v) (laid 8 dueOf (moment never) q) (laid 8 amountOf (amount 0) q) (length q)
-
 same-queue : (v : Tenant) (ds ds′ : List Moment) (bs bs′ : List Amount) (n n′ : ℕ) → ds ≡ ds′ → bs ≡ bs′ → n ≡ n′
     → queueAs (written v) ds bs n ≡ queueAs (written v) ds′ bs′ n′
 same-queue v ds ds′ bs bs′ n n′ p q r = rw (p, q, r)
@@ -71,56 +70,57 @@ module _ (last d : ℕ) (v : Tenant) (few : length (v .pending) ≤ 8) (fits : l
   due-fits : later (moment last) (amount (v .terms .period)) ≡ moment (last + v .terms .period)
   due-fits = ap moment (omega arith)
 
-  joined-same : 0 < length (v .pending) → joinedOf (written v) (amount d) ≡ withQueue v (toLast
-      (λ e. record { due = e .due; amount = e .amount + d }) (v .pending))
+  -- the amount joins the last entry, whose due time becomes `due` of it
+  abbrev more : (Entry → ℕ) → Entry → Entry
+  more due e = record { due = due e; amount = e .amount + d }
+
+  last-same : (due : Entry → ℕ) (ds : List Moment) → 0 < length (v .pending)
+      → ds ≡ laid 8 dueOf (moment never) (toLast (more due) (v .pending))
+      → queueAs (written v) ds (withMore (withQueue v (v .pending)) (length (v .pending) - 1) (amount d)) (length (v .pending))
+      ≡ withQueue v (toLast (more due) (v .pending))
+  unfolding written
+  last-same due ds h e =
+      same-queue v ds (laid 8 dueOf (moment never) (toLast (more due) q))
+      (set (laid 8 amountOf (amount 0) q) n (amount ((getD (laid 8 amountOf (amount 0) q) n (amount 0)) .0 + d)))
+      (laid 8 amountOf (amount 0) (toLast (more due) q))
+      (length q) (length (toLast (more due) q))
+      e
+      (ap (λ (m : ℕ). set (laid 8 amountOf (amount 0) q) n (amount (m + d))) (last-ticks (more due) q h few)
+      ∙ sym (laid-last (more due) q h few amountOf (amount 0)))
+      (sym (same-length (more due) q))
+    where
+      q : List Entry
+      q = v .pending
+
+      n : ℕ
+      n = length q - 1
+
+  joined-same : 0 < length (v .pending)
+      → joinedOf (withQueue v (v .pending)) (amount d) ≡ withQueue v (toLast (more (λ e. e .due)) (v .pending))
   unfolding written
   joined-same h =
-      same-queue v (laid 8 dueOf (moment never) q) (laid 8 dueOf (moment never) (toLast f q))
-      (set (laid 8 amountOf (amount 0) q) n (amount ((getD (laid 8 amountOf (amount 0) q) n (amount 0)) .0 + d)))
-      (laid 8 amountOf (amount 0) (toLast f q))
-      (length q) (length (toLast f q))
-      (sym (laid-last f q h few dueOf (moment never) ∙ ap (set (laid 8 dueOf (moment never) q) n) (last-due f q h few)
-      ∙ set-getD (laid 8 dueOf
-      (moment never) q) n (moment 0)))
-      (ap (λ (m : ℕ). set (laid 8 amountOf (amount 0) q) n (amount (m + d))) (last-ticks f q h few)
-      ∙ sym (laid-last f q h few amountOf (amount 0)))
-      (sym (same-length f q))
+      last-same (λ e. e .due) ds h
+      (sym (laid-last (more (λ e. e .due)) q h few dueOf (moment never)
+      ∙ ap (set ds (length q - 1)) (last-due (more (λ e. e .due)) q h few)
+      ∙ set-getD ds (length q - 1) (moment 0)))
     where
       q : List Entry
       q = v .pending
 
-      n : ℕ
-      n = length q - 1
-
-      f : Entry → Entry
-      f e = record { due = e .due; amount = e .amount + d }
+      ds : List Moment
+      ds = laid 8 dueOf (moment never) q
 
   folded-same : 0 < length (v .pending)
-      → foldedOf (written v) (amount d) (later (moment last) (amount (v .terms .period)))
-      ≡ withQueue v (toLast (λ e. record { due = last + v .terms .period; amount = e .amount + d }) (v .pending))
+      → foldedOf (withQueue v (v .pending)) (amount d) (later (moment last) (amount (v .terms .period)))
+      ≡ withQueue v (toLast (more (λ e. last + v .terms .period)) (v .pending))
   unfolding written
   folded-same h =
-      same-queue v (set (laid 8 dueOf (moment never) q) n (later (moment last) (amount (v .terms .period))))
-      (laid 8 dueOf (moment never) (toLast f q))
-      (set (laid 8 amountOf (amount 0) q) n (amount ((getD (laid 8 amountOf (amount 0) q) n (amount 0)) .0 + d)))
-      (laid 8 amountOf (amount 0) (toLast f q))
-      (length q) (length (toLast f q))
-      (ap (set (laid 8 dueOf (moment never) q) n) due-fits ∙ sym (laid-last f q h few dueOf (moment never)))
-      (ap (λ (m : ℕ). set (laid 8 amountOf (amount 0) q) n (amount (m + d))) (last-ticks f q h few)
-      ∙ sym (laid-last f q h few amountOf (amount 0)))
-      (sym (same-length f q))
-    where
-      q : List Entry
-      q = v .pending
-
-      n : ℕ
-      n = length q - 1
-
-      f : Entry → Entry
-      f e = record { due = last + v .terms .period; amount = e .amount + d }
+      last-same (λ e. last + v .terms .period) _ h
+      (ap (set (laid 8 dueOf (moment never) (v .pending)) (length (v .pending) - 1)) due-fits
+      ∙ sym (laid-last (more (λ e. last + v .terms .period)) (v .pending) h few dueOf (moment never)))
 
   appended-same : length (v .pending) < 8
-      → appendedOf (written v) (amount d) (later (moment last) (amount (v .terms .period)))
+      → appendedOf (withQueue v (v .pending)) (amount d) (later (moment last) (amount (v .terms .period)))
       ≡ withQueue v (v .pending ++ record { due = last + v .terms .period; amount = d } ∷ [])
   unfolding written
   appended-same h =
@@ -139,26 +139,22 @@ module _ (last d : ℕ) (v : Tenant) (few : length (v .pending) ≤ 8) (fits : l
       e : Entry
       e = record { due = last + v .terms .period; amount = d }
 
-  count-written : (written v) .count ≡ length (v .pending)
-  unfolding written
-  count-written = refl
-
   period-written : (written v) .period ≡ amount (v .terms .period)
   unfolding written
   period-written = refl
 
-  posted-same : postedOf (written v) (amount d) (moment last) ≡ withQueue v (posted last d v)
+  posted-queue : postedOf (withQueue v (v .pending)) (amount d) (moment last) ≡ withQueue v (posted last d v)
   unfolding postedOf posted written
-  posted-same = go (joins last v) refl
+  posted-queue = go (joins last v) refl
     where
-      q : List Entry
-      q = v .pending
-
       due : Moment
       due = later (moment last) (amount (v .terms .period))
 
+      x : Vcpu
+      x = withQueue v (v .pending)
+
       full : (b : Bool) → leb 8 (length (v .pending)) ≡ b
-          → cond (eqb (length (v .pending)) 8) (foldedOf (written v) (amount d) due) (appendedOf (written v) (amount d) due)
+          → cond (eqb (length (v .pending)) 8) (foldedOf x (amount d) due) (appendedOf x (amount d) due)
           ≡ withQueue v (cond b (toLast (λ e. record { due = last + v .terms .period; amount = e .amount + d }) (v .pending))
           (v .pending ++ record { due = last + v .terms .period; amount = d } ∷ []))
       full true e = let h : 8 ≤ length (v .pending) = leb-true 8 (length (v .pending)) e in
@@ -167,9 +163,9 @@ module _ (last d : ℕ) (v : Tenant) (few : length (v .pending) ≤ 8) (fits : l
           rw (ne-eqb (length (v .pending)) 8 (omega arith)) (appended-same h)
 
       go : (b : Bool) → joins last v ≡ b
-          → cond (joinsOf (written v) (moment last)) (joinedOf (written v) (amount d))
-          (cond (eqb ((written v) .count) 8) (foldedOf (written v) (amount d) (later (moment last) ((written v) .period)))
-          (appendedOf (written v) (amount d) (later (moment last) ((written v) .period))))
+          → cond (joinsOf x (moment last)) (joinedOf x (amount d))
+          (cond (eqb (length (v .pending)) 8) (foldedOf x (amount d) (later (moment last) ((written v) .period)))
+          (appendedOf x (amount d) (later (moment last) ((written v) .period))))
           ≡ withQueue v
           (cond b (toLast (λ e. record { due = e .due; amount = e .amount + d }) (v .pending))
           (cond (not b && leb 8 (length (v .pending)))
@@ -177,33 +173,57 @@ module _ (last d : ℕ) (v : Tenant) (few : length (v .pending) ≤ 8) (fits : l
           (v .pending ++ record { due = last + v .terms .period; amount = d } ∷ [])))
       go true e = rw (joins-same last v ∙ e)
           (joined-same (waits-some (v .pending) (and-true (eqb (v .ended) last) (waiting (v .pending)) e .1)))
-      go false e = rw (joins-same last v ∙ e, count-written, period-written) (full (leb 8 (length (v .pending))) refl)
+      go false e = rw (joins-same last v ∙ e, period-written) (full (leb 8 (length (v .pending))) refl)
 
-  usable-same : (now : ℕ) → usedAs (withQueue v (posted last d v)) (amount (v .usable - d)) (moment now)
-      ≡ written (record { terms = v .terms; runnable = v .runnable; usable = v .usable - d; ended = now; pending = posted last d v })
+  -- the tenant charged, with a queue or without one
+  abbrev paid : ℕ → Bool → Tenant
+  paid now b =
+      record {
+        terms = v .terms;
+        runnable = v .runnable;
+        usable = v .usable - d;
+        ended = cond b now (v .ended);
+        pending = cond b (posted last d v) (v .pending);
+        boundary = v .boundary;
+      }
+
+  took-queue : (now : ℕ) → tookOf (endedAs (withQueue v (posted last d v)) (moment now)) (amount (v .usable - d))
+      ≡ withQueue (paid now true) (posted last d v)
   unfolding written
-  usable-same now = refl
+  took-queue now = refl
 
-  usable-is : (written v) .usable .0 ≡ v .usable
+  took-written : (now : ℕ) → tookOf (written v) (amount (v .usable - d)) ≡ written (paid now false)
   unfolding written
-  usable-is = refl
+  took-written now = refl
 
-  pub charged-same : (now : ℕ) → last ≤ now → d ≡ now - last
+  kind-is : (written v) .kind ≡ kindAs (v .terms .kind)
+  unfolding written
+  kind-is = refl
+
+  spent-same : (v .terms .kind ≡ 0 → v .boundary ≡ none) → (now : ℕ)
+      → tookOf (spentOf (written v) (amount d) (moment last) (moment now)) (amount (v .usable - d))
+      ≡ written (paid now (isSporadic (v .terms)))
+  unfolding spentOf
+  spent-same alone now = rw (ap hasQueue kind-is ∙ kind-queue (v .terms .kind)) (go (eqb (v .terms .kind) 0) refl)
+    where
+      go : (b : Bool) → eqb (v .terms .kind) 0 ≡ b
+          → tookOf (cond b (endedAs (postedOf (written v) (amount d) (moment last)) (moment now)) (written v)) (amount (v .usable - d))
+          ≡ written (paid now b)
+      go true e =
+          let n : v .boundary ≡ none = alone (eqb-true (v .terms .kind) 0 e) in
+          ap (λ (x : Vcpu). tookOf (endedAs (postedOf x (amount d) (moment last)) (moment now)) (amount (v .usable - d))) (as-queue v n)
+          ∙ ap (λ (x : Vcpu). tookOf (endedAs x (moment now)) (amount (v .usable - d))) posted-queue
+          ∙ took-queue now
+          ∙ sym (as-queue (paid now true) n)
+      go false e = took-written now
+
+  pub charged-same : (v .terms .kind ≡ 0 → v .boundary ≡ none) → (now : ℕ) → last ≤ now → d ≡ now - last
       → chargedOf (written v) (moment last) (moment now) ≡ written (charged last now v)
-  unfolding chargedOf charged postedOf written
-  charged-same now h e = go (eqb last now) refl
+  unfolding chargedOf charged written
+  charged-same alone now h e = rw (sym e) (go (eqb last now) refl)
     where
       go : (b : Bool) → eqb last now ≡ b
-          → cond b (written v) (usedAs (postedOf (written v) (amount (now - last)) (moment last))
-          (amount ((written v) .usable .0 - (now - last))) (moment now))
-          ≡ written (cond (eqb (now - last) 0) v (record {
-            terms = v .terms;
-            runnable = v .runnable;
-            usable = v .usable -
-                (now - last);
-            ended = now;
-            pending = posted last (now - last) v;
-          }))
-      go true g = let k : last ≡ now = eqb-true last now g in rw (eq-eqb (now - last) 0 (omega arith))
-      go false g =
-          rw (ne-eqb (now - last) 0 (λ z. eqb-false last now g (omega arith)), usable-is, sym e, posted-same) (usable-same now)
+          → cond b (written v) (tookOf (spentOf (written v) (amount d) (moment last) (moment now)) (amount (v .usable - d)))
+          ≡ written (cond (eqb d 0) v (paid now (isSporadic (v .terms))))
+      go true g = let k : last ≡ now = eqb-true last now g in rw (eq-eqb d 0 (omega arith))
+      go false g = rw (ne-eqb d 0 (λ z. eqb-false last now g (omega arith))) (spent-same alone now)

@@ -1,5 +1,5 @@
--- In a ranked table the first ready one is the most urgent, and the front entries of the runnable ones before it hold the
--- earliest return of those more urgent: what the scan finds is what the rules choose. Assumes nothing.
+-- In a ranked table the first ready one is the most urgent, and the first slots of the runnable ones before it, and its own if it has
+-- a boundary, hold what comes next: what the scan finds is what the rules choose, over every kind. Assumes nothing.
 use Prim.Native.Nat.{ℕ, suc, _+_, _≤_, min}
 use mathlib.Core.Path.{_≡_, refl, ap, sym, _∙_, subst}
 use mathlib.Core.Bool.{Bool, true, false, cond, _&&_}
@@ -8,111 +8,99 @@ use mathlib.Core.Option.{Option, none, some}
 use native.Mathlib.Omega.{arith}
 use lib.Dec.{ltb, eqb}
 use lib.ListN.{length}
-use borrow.Author.Tests.{eqb-true, eq-eqb, lt-ltb}
+use borrow.Author.Tests.{eqb-true, eq-eqb, ne-eqb, lt-ltb}
 use Rattle.units.specs.Units.{moment, amount}
 use Rattle.rules.specs.Lists.{keep, All}
-use Rattle.rules.specs.Vcpu.{Description, Entry, moreUrgent, named}
+use Rattle.rules.specs.Vcpu.{Description, moreUrgent, named}
 use Rattle.rules.specs.Vcpu.{Vcpu as Tenant}
 use Rattle.rules.specs.Choose.{ready, better, mostUrgent, choose}
-use Rattle.rules.specs.Timer.{earlier, earliest, returns}
-use Rattle.rules.proofs.Tests.{no-some, and-right}
+use Rattle.rules.specs.Timer.{earlier, earliest, times, comes, next, nexts, runnable, above}
+use Rattle.rules.proofs.Tests.{and-right}
+use Rattle.rules.proofs.Lists.{all-among, map-among}
+use Rattle.rules.proofs.Choice.{chosen}
 use Rattle.rules.proofs.Urgency.{irreflexive, asymmetric}
 use Rattle.turns.specs.declared.Vcpu.{Vcpu}
 use Rattle.turns.specs.declared.Pick.{Pick}
-use Rattle.turns.specs.Written.{never, idle, written, place, timerOf}
-use Rattle.rules.specs.Meaning.{Sorted}
+use Rattle.turns.specs.Written.{never, idle, kindAs, written, place, timerOf}
 use Rattle.turns.proofs.Invariant.{Ranked, Distinct, termsOf}
-use Rattle.turns.specs.Steps.{pickedOf, picks, readyOf}
-use Rattle.turns.proofs.Return.{front, head-written}
+use Rattle.turns.specs.Steps.{hasQueue, headOf, boundaryOf, pickedOf, picks, readyOf}
+use Rattle.turns.proofs.Written.{Formed, queue, refills, kind-queue}
+use Rattle.turns.proofs.Return.{first, head-written}
 
--- the earliest of some times, all of them below the time above all
-early-cons : (t : ℕ) (ts : List ℕ) → t ≤ never → timerOf (earliest (t ∷ ts)) ≡ min t (timerOf (earliest ts))
-early-cons t ts h = go (earliest ts)
+-- a time more, or none, before some times; none of them above the time above all
+early-times : (o : Option ℕ) (ts : List ℕ) → timerOf o ≤ never → timerOf (earliest ts) ≤ never
+    → timerOf (earliest (times o ++ ts)) ≡ min (timerOf o) (timerOf (earliest ts))
+early-times none ts h g = omega arith
+early-times (some t) ts h g = go (earliest ts)
   where
     go : (o : Option ℕ) → earlier t o ≡ min t (timerOf o)
     go none = omega arith
     go (some b) = refl
 
-early-most : (ts : List ℕ) → All (λ t. t ≤ never) ts → timerOf (earliest ts) ≤ never
-early-most [] h = omega arith
-early-most (t ∷ ts) h = omega (arith, early-cons t ts (h .0), early-most ts (h .1))
+-- times in order, none above the time above all: the first is the earliest
+abbrev pub Rises : ℕ → List ℕ → Type 0
+Rises low [] = low ≤ never
+Rises low (t ∷ ts) = (low ≤ t) × Rises t ts
 
-early-append : (ss ts : List ℕ) → All (λ t. t ≤ never) ss → All (λ t. t ≤ never) ts
-    → timerOf (earliest (ss ++ ts)) ≡ min (timerOf (earliest ss)) (timerOf (earliest ts))
-early-append [] ts h g = omega (arith, early-most ts g)
-early-append (s ∷ ss) ts h g =
-    omega (arith, early-cons s (ss ++ ts) (h .0), early-cons s ss (h .0), early-append ss ts (h .1) g)
+rises-first : (low : ℕ) (ts : List ℕ) → Rises low ts → (low ≤ first ts) × (first ts ≤ never) × (timerOf (earliest ts) ≡ first ts)
+rises-first low [] h = (h, omega arith, refl)
+rises-first low (t ∷ ts) h =
+    let r = rises-first t ts (h .1) in
+    let m : t ≤ never = omega (arith, r .0, r .1) in
+    (h .0, m, omega (arith, r .0, r .1, r .2, early-times (some t) ts m (omega (arith, r .1, r .2))))
 
-dues-all : (q : List Entry) → All (λ e. e .due ≤ never) q → All (λ t. t ≤ never) (map (λ e. e .due) q)
-dues-all [] h = h
-dues-all (e ∷ q) h = (h .0, dues-all q (h .1))
-
-front-above : (m : ℕ) (q : List Entry) → m ≤ never → All (λ e. m ≤ e .due) q → m ≤ front q
-front-above m [] l h = l
-front-above m (e ∷ q) l h = h .0
-
-early-front : (q : List Entry) → Sorted q → All (λ e. e .due ≤ never) q → timerOf (earliest (map (λ e. e .due) q)) ≡ front q
-early-front [] r h = refl
-early-front (e ∷ q) r h =
-    omega (arith, early-cons (e .due) (map (λ f. f .due) q) (h .0), early-front q (r .1) (h .1), front-above (e .due) q (h .0) (r .0))
-
--- what the scan asks of a tenant's queue
+-- what the scan asks of a tenant: what comes to it stands in order, and it has a queue or a boundary
 pub record Calm (v : Tenant) : Type 0 where
-  pub sorted : Sorted (v .pending)
-  pub near : All (λ e. e .due ≤ never) (v .pending)
+  pub rises : Rises 0 (comes v)
+  pub formed : Formed v
 
-pub append-all : (P : ℕ → Type 0) (ss ts : List ℕ) → All P ss → All P ts → All P (ss ++ ts)
-append-all P [] ts h g = g
-append-all P (s ∷ ss) ts h g = (h .0, append-all P ss ts (h .1) g)
+module _ (v : Tenant) (c : Calm v) where
+  -- the head of its record is the next time that something comes to it, of every kind
+  next-head : headOf (written v) ≡ timerOf (next v)
+  next-head = head-written v ∙ sym (rises-first 0 (comes v) (c .rises) .2)
 
-returns-all : (test : Tenant → Bool) (vs : List Tenant) → All Calm vs → All (λ t. t ≤ never) (returns (keep test vs))
-returns-all test [] h = tt
-returns-all test (v ∷ vs) h = go (test v) (returns-all test vs (h .1))
+  next-most : timerOf (next v) ≤ never
+  next-most = let r = rises-first 0 (comes v) (c .rises) in omega (arith, r .1, r .2)
+
+  own-written : boundaryOf ((written v) .kind) (headOf (written v)) ≡ timerOf (v .boundary)
+  unfolding written
+  own-written = go (c .formed)
+    where
+      go : Formed v → cond (hasQueue (kindAs (v .terms .kind))) never (headOf (written v)) ≡ timerOf (v .boundary)
+      go (queue k e) = rw (kind-queue (v .terms .kind) ∙ eq-eqb (v .terms .kind) 0 k, e)
+      go (refills k h p b e) =
+          rw (kind-queue (v .terms .kind) ∙ ne-eqb (v .terms .kind) 0 k) (head-written v ∙ rw (p, e))
+
+  own-most : timerOf (v .boundary) ≤ never
+  own-most = subst (λ (n : ℕ). n ≤ never) own-written (go (hasQueue ((written v) .kind)))
+    where
+      go : (b : Bool) → cond b never (headOf (written v)) ≤ never
+      go true = omega arith
+      go false = omega (arith, next-head, next-most)
+
+pub nexts-most : (test : Tenant → Bool) (vs : List Tenant) → All Calm vs → timerOf (earliest (nexts (keep test vs))) ≤ never
+nexts-most test [] h = omega arith
+nexts-most test (v ∷ vs) h = go (test v) (nexts-most test vs (h .1))
   where
-    go : (b : Bool) → All (λ t. t ≤ never) (returns (keep test vs))
-        → All (λ t. t ≤ never) (returns (cond b (v ∷ keep test vs) (keep test vs)))
-    go true rec = append-all (λ t. t ≤ never) (map (λ e. e .due) (v .pending)) (returns (keep test vs))
-        (dues-all (v .pending) (h .0 .near)) rec
+    go : (b : Bool) → timerOf (earliest (nexts (keep test vs))) ≤ never
+        → timerOf (earliest (nexts (cond b (v ∷ keep test vs) (keep test vs)))) ≤ never
+    go true rec = omega (arith, early-times (next v) (nexts (keep test vs)) (next-most v (h .0)) rec)
     go false rec = rec
 
--- one tenant more in the search for the earliest return
+-- one tenant more in the search for what comes next
 early-one : (test : Tenant → Bool) (v : Tenant) (vs : List Tenant) → All Calm (v ∷ vs)
-    → timerOf (earliest (returns (keep test (v ∷ vs))))
-    ≡ min (cond (test v) (front (v .pending)) never) (timerOf (earliest (returns (keep test vs))))
+    → timerOf (earliest (nexts (keep test (v ∷ vs))))
+    ≡ min (cond (test v) (timerOf (next v)) never) (timerOf (earliest (nexts (keep test vs))))
 early-one test v vs h = go (test v)
   where
-    go : (b : Bool) → timerOf (earliest (returns (cond b (v ∷ keep test vs) (keep test vs))))
-        ≡ min (cond b (front (v .pending)) never) (timerOf
-        (earliest (returns (keep test vs))))
-    go true =
-        omega (
-          arith,
-          early-append (map (λ e. e .due) (v .pending)) (returns (keep test vs)) (dues-all (v .pending) (h .0 .near))
-              (returns-all test vs (h .1)),
-          early-front (v .pending) (h .0 .sorted) (h .0 .near),
-        )
-    go false = omega (arith, early-most (returns (keep test vs)) (returns-all test vs (h .1)))
+    go : (b : Bool) → timerOf (earliest (nexts (cond b (v ∷ keep test vs) (keep test vs))))
+        ≡ min (cond b (timerOf (next v)) never) (timerOf (earliest (nexts (keep test vs))))
+    go true = early-times (next v) (nexts (keep test vs)) (next-most v (h .0)) (nexts-most test vs (h .1))
+    go false = omega (arith, nexts-most test vs (h .1))
 
--- a fact of all terms holds of the most urgent
-urgent-all : (P : Description → Type 0) (test : Tenant → Bool) (vs : List Tenant) (w : Tenant) → All P (termsOf vs) → mostUrgent
-    (keep test vs) ≡ some w → P (w .terms)
-urgent-all P test [] w h e = no-some e
-urgent-all P test (v ∷ vs) w h e = go (test v) e (λ u. urgent-all P test vs u (h .1))
-  where
-    pick : (t : Bool) (u : Tenant) → cond t u v ≡ w → P (u .terms) → P (w .terms)
-    pick true u f g = subst (λ (x : Tenant). P (x .terms)) f g
-    pick false u f g = subst (λ (x : Tenant). P (x .terms)) f (h .0)
-
-    inner : (o : Option Tenant) → ((u : Tenant) → o ≡ some u → P (u .terms)) → some (better v o) ≡ some w → P (w .terms)
-    inner none rec f = let g : v ≡ w = cc in subst (λ (x : Tenant). P (x .terms)) g (h .0)
-    inner (some u) rec f = let g : cond (moreUrgent (u .terms) (v .terms)) u v ≡ w = cc in
-        pick (moreUrgent (u .terms) (v .terms)) u g (rec u refl)
-
-    go : (b : Bool) → mostUrgent (cond b (v ∷ keep test vs) (keep test vs)) ≡ some w
-        → ((u : Tenant) → mostUrgent (keep test vs) ≡ some u → P
-        (u .terms)) → P (w .terms)
-    go true f rec = inner (mostUrgent (keep test vs)) rec f
-    go false f rec = rec w f
+-- a fact of all terms holds of those of the one chosen
+chosen-terms : (P : Description → Type 0) (vs : List Tenant) (w : Tenant) → All P (termsOf vs) → choose vs ≡ some w → P (w .terms)
+chosen-terms P vs w h e = all-among P (termsOf vs) h (w .terms) (map-among (λ v. v .terms) vs w (chosen vs w e .on-card))
 
 -- the first one, ready, is chosen
 first-chosen : (v : Tenant) (vs : List Tenant) → All (λ e. moreUrgent (v .terms) e ≡ true) (termsOf vs)
@@ -123,13 +111,12 @@ first-chosen v vs h = go (mostUrgent (keep ready vs)) refl
     go none e = refl
     go (some w) e =
         let f : moreUrgent (w .terms) (v .terms) ≡ false =
-        asymmetric (v .terms) (w .terms) (urgent-all (λ d. moreUrgent (v .terms) d ≡ true) ready vs w h e) in
+        asymmetric (v .terms) (w .terms) (chosen-terms (λ d. moreUrgent (v .terms) d ≡ true) vs w h e) in
         rw f
 
 -- and nobody runnable is more urgent than it
 none-before : (v : Tenant) (vs : List Tenant) → All (λ e. moreUrgent (v .terms) e ≡ true) (termsOf vs)
-    → keep (λ w. w .runnable && moreUrgent
-    (w .terms) (v .terms)) vs ≡ []
+    → keep (above v) vs ≡ []
 none-before v [] h = refl
 none-before v (w ∷ ws) h = rw (asymmetric (v .terms) (w .terms) (h .0), and-right (w .runnable)) (none-before v ws (h .1))
 
@@ -141,53 +128,68 @@ unfolding pickedOf
 found-stays k j [] e = refl
 found-stays k j (v ∷ l) e = rw e (found-stays k (suc j) l e)
 
--- what the scan of a ranked list from place j on finds, the earliest return before it being s
+-- what the scan of a ranked list from place j on finds, s being the next time that something comes to those before it
 abbrev pub pickFor : ℕ → ℕ → List Tenant → Option Tenant → Pick
-pickFor s j vs none = idleWith (min s (timerOf (earliest (returns (keep (λ w. w .runnable) vs)))))
+pickFor s j vs none = idleWith (min s (timerOf (earliest (nexts (keep runnable vs)))))
 pickFor s j vs (some v) =
     record {
       at = j + place (v .terms .tunnel) vs;
       usable = amount (v .usable);
-      soon = moment (min s (timerOf (earliest (returns (keep (λ w. w .runnable && moreUrgent (w .terms) (v .terms)) vs)))));
+      soon = moment (min s (timerOf (earliest (times (v .boundary) ++ nexts (keep (above v) vs)))));
     }
-
-step-ready : (s j : ℕ) (v : Tenant) → ready v ≡ true
-    → pickedOf (idleWith s) j (written v) ≡ record { at = j; usable = amount (v .usable); soon = moment s }
-unfolding pickedOf written
-step-ready s j v e = rw e
 
 ready-written : (v : Tenant) → readyOf (written v) ≡ ready v
 unfolding written
 ready-written v = refl
 
+usable-written : (v : Tenant) → (written v) .usable ≡ amount (v .usable)
+unfolding written
+usable-written v = refl
+
 runnable-written : (v : Tenant) → (written v) .runnable ≡ v .runnable
 unfolding written
 runnable-written v = refl
 
-step-waits : (s j : ℕ) (v : Tenant) → ready v ≡ false
-    → pickedOf (idleWith s) j (written v) ≡ idleWith (min s (cond (v .runnable) (front (v .pending)) never))
+-- one place: it is ready, or it waits
+abbrev waits : Tenant → ℕ
+waits v = cond (v .runnable) (timerOf (next v)) never
+
+step-ready : (s j : ℕ) (v : Tenant) → Calm v → ready v ≡ true
+    → pickedOf (idleWith s) j (written v)
+    ≡ record { at = j; usable = amount (v .usable); soon = moment (min s (timerOf (v .boundary))) }
 unfolding pickedOf
-step-waits s j v e = rw (ready-written v ∙ e, head-written v, runnable-written v)
+step-ready s j v c e = rw (ready-written v ∙ e, own-written v c, usable-written v)
+
+step-waits : (s j : ℕ) (v : Tenant) → Calm v → ready v ≡ false → pickedOf (idleWith s) j (written v) ≡ idleWith (min s (waits v))
+unfolding pickedOf
+step-waits s j v c e = rw (ready-written v ∙ e, next-head v c, runnable-written v)
 
 -- the scan of the rest, where the one at j is not ready
 module _ (s j : ℕ) (v : Tenant) (vs : List Tenant) (calm : All Calm (v ∷ vs)) (ranked : Ranked (termsOf (v ∷ vs)))
     (distinct : Distinct (termsOf
     (v ∷ vs))) where
-  later-chosen : (o : Option Tenant) → mostUrgent (keep ready vs) ≡ o
-      → pickFor (min s (cond (v .runnable) (front (v .pending)) never)) (suc j) vs o ≡ pickFor s j (v ∷ vs) o
-  later-chosen none e =
-      ap idleWith (omega (arith, early-one (λ w. w .runnable) v vs calm))
+  later-chosen : (o : Option Tenant) → choose vs ≡ o → pickFor (min s (waits v)) (suc j) vs o ≡ pickFor s j (v ∷ vs) o
+  later-chosen none e = ap idleWith (omega (arith, early-one runnable v vs calm))
   later-chosen (some u) e =
       same (j + place (u .terms .tunnel) (v ∷ vs)) (placed-later (named (u .terms .tunnel) v) refl)
-      (omega (arith, early-one (λ w. w .runnable && moreUrgent (w .terms) (u .terms)) v vs calm, waits-same (v .runnable)))
+      (omega (
+        arith,
+        early-one (above u) v vs calm,
+        waits-same (v .runnable),
+        early-times (u .boundary) (nexts (keep (above u) vs)) own (nexts-most (above u) vs (calm .1)),
+        early-times (u .boundary) (nexts (keep (above u) (v ∷ vs))) own (nexts-most (above u) (v ∷ vs) calm),
+      ))
     where
+      own : timerOf (u .boundary) ≤ never
+      own = own-most u (all-among Calm vs (calm .1) u (chosen vs u e .on-card))
+
       urgent : moreUrgent (v .terms) (u .terms) ≡ true
-      urgent = urgent-all (λ d. moreUrgent (v .terms) d ≡ true) ready vs u (ranked .0) e
+      urgent = chosen-terms (λ d. moreUrgent (v .terms) d ≡ true) vs u (ranked .0) e
 
       apart : u .terms .tunnel ≡ v .terms .tunnel → ⊥
-      apart = urgent-all (λ d. d .tunnel ≡ v .terms .tunnel → ⊥) ready vs u (distinct .0) e
+      apart = chosen-terms (λ d. d .tunnel ≡ v .terms .tunnel → ⊥) vs u (distinct .0) e
 
-      waits-same : (b : Bool) → cond (b && moreUrgent (v .terms) (u .terms)) (front (v .pending)) never ≡ cond b (front (v .pending)) never
+      waits-same : (b : Bool) → cond (b && moreUrgent (v .terms) (u .terms)) (timerOf (next v)) never ≡ cond b (timerOf (next v)) never
       waits-same true = rw urgent
       waits-same false = refl
 
@@ -205,34 +207,35 @@ pub scan : (s j : ℕ) (vs : List Tenant) → s ≤ never → j + length vs ≤ 
     → picks (idleWith s) j (map written vs) ≡ pickFor s j vs (choose vs)
 scan s j [] l h calm ranked distinct = ap idleWith (omega arith)
 scan s j (v ∷ vs) l h calm ranked distinct =
-    go (ready v) refl (scan (min s (cond (v .runnable) (front (v .pending)) never)) (suc j) vs (omega arith) (omega arith) (calm .1)
-    (ranked .1) (distinct .1))
+    go (ready v) refl (scan (min s (waits v)) (suc j) vs (omega arith) (omega arith) (calm .1) (ranked .1) (distinct .1))
   where
-    first : eqb (v .terms .tunnel) (v .terms .tunnel) ≡ true
-    first = eq-eqb (v .terms .tunnel) (v .terms .tunnel) refl
+    first-named : eqb (v .terms .tunnel) (v .terms .tunnel) ≡ true
+    first-named = eq-eqb (v .terms .tunnel) (v .terms .tunnel) refl
 
-    none-at-all : keep (λ w. w .runnable && moreUrgent (w .terms) (v .terms)) (v ∷ vs) ≡ []
+    none-at-all : keep (above v) (v ∷ vs) ≡ []
     none-at-all = rw (irreflexive (v .terms), and-right (v .runnable)) (none-before v vs (ranked .0))
 
-    found : record { at = j; usable = amount (v .usable); soon = moment s } ≡ pickFor s j (v ∷ vs) (some v)
-    found = rw (first, none-at-all) (same (omega arith) (omega arith))
+    alone : timerOf (earliest (times (v .boundary) ++ nexts [])) ≡ timerOf (v .boundary)
+    alone = omega (arith, early-times (v .boundary) [] (own-most v (calm .0)) (omega arith), own-most v (calm .0))
+
+    found : record { at = j; usable = amount (v .usable); soon = moment (min s (timerOf (v .boundary))) } ≡ pickFor s j (v ∷ vs) (some v)
+    found = rw (first-named, none-at-all) (same (omega arith) (omega (arith, alone)))
       where
         same : {a b m n : ℕ} → a ≡ b → m ≡ n → _≡_ {A = Pick} (record { at = a; usable = amount (v .usable); soon = moment m })
             (record { at = b; usable = amount (v .usable); soon = moment n })
         same p q = rw (p, q)
 
     go : (b : Bool) → ready v ≡ b
-        → picks (idleWith (min s (cond (v .runnable) (front (v .pending)) never))) (suc j) (map written vs)
-        ≡ pickFor (min s (cond (v .runnable) (front (v .pending)) never)) (suc j) vs (choose vs)
+        → picks (idleWith (min s (waits v))) (suc j) (map written vs) ≡ pickFor (min s (waits v)) (suc j) vs (choose vs)
         → picks (pickedOf (idleWith s) j (written v)) (suc j) (map written vs)
         ≡ pickFor s j (v ∷ vs) (mostUrgent (cond b (v ∷ keep ready vs) (keep ready vs)))
     go true e rec =
-        ap (λ (k : Pick). picks k (suc j) (map written vs)) (step-ready s j v e)
-        ∙ found-stays (record { at = j; usable = amount (v .usable); soon = moment s }) (suc j) (map written vs)
-        (lt-ltb j idle (omega arith))
+        ap (λ (k : Pick). picks k (suc j) (map written vs)) (step-ready s j v (calm .0) e)
+        ∙ found-stays (record { at = j; usable = amount (v .usable); soon = moment (min s (timerOf (v .boundary))) }) (suc j)
+        (map written vs) (lt-ltb j idle (omega arith))
         ∙ found
         ∙ ap (λ (w : Tenant). pickFor s j (v ∷ vs) (some w)) (sym (first-chosen v vs (ranked .0)))
     go false e rec =
-        ap (λ (k : Pick). picks k (suc j) (map written vs)) (step-waits s j v e)
+        ap (λ (k : Pick). picks k (suc j) (map written vs)) (step-waits s j v (calm .0) e)
         ∙ rec
         ∙ later-chosen s j v vs calm ranked distinct (choose vs) refl

@@ -8,20 +8,21 @@ use native.Mathlib.Omega.{arith}
 use lib.ListN.{length}
 use borrow.Author.Tests.{eqb-false}
 use Rattle.rules.specs.Lists.{count, All}
-use Rattle.rules.specs.Limits.{mostVcpus, mostPending}
+use Rattle.rules.specs.Limits.{mostVcpus}
 use Rattle.rules.specs.Vcpu.{Description, moreUrgent, named}
 use Rattle.rules.specs.Vcpu.{Vcpu as Tenant}
 use Rattle.rules.specs.Card.{Card}
 use Rattle.rules.specs.Turn.{Call}
 use Rattle.rules.specs.History.{after, heard, past}
 use Rattle.rules.specs.Stays.{stays}
-use Rattle.rules.specs.Meaning.{InRange, pendingTicks, Sorted}
+use Rattle.rules.specs.Meaning.{InRange, pendingTicks}
 use Rattle.rules.proofs.Named.{named-itself}
+use Rattle.rules.proofs.ThreeKinds.{by-kind}
 use Rattle.rules.proofs.Sound.{Orderly, Sound}
 use Rattle.rules.proofs.Reached.{Reached, reached}
-use Rattle.rules.proofs.Meaning.{meaning}
 use Rattle.turns.specs.declared.Core.{Core}
 use Rattle.turns.specs.Written.{card, coreOf}
+use Rattle.turns.proofs.Written.{Formed, queue, refills, Shows}
 
 -- each is more urgent than all behind it
 abbrev pub Ranked : List Description → Type 0
@@ -46,7 +47,6 @@ pub record SoundCore (c : Core) : Type 0 where
 pub record Between (last : ℕ) (vs : List Tenant) : Type 0 where
   pub few : length vs ≤ mostVcpus
   pub each : All (Sound last) vs
-  pub sorted : All (λ v. Sorted (v .pending)) vs
   pub distinct : Distinct (termsOf vs)
   pub ranked : Ranked (termsOf vs)
 
@@ -58,11 +58,17 @@ pub record Listed (vs : List Tenant) : Type 0 where
 -- a tenant whose numbers fit its record
 pub record Fits (v : Tenant) : Type 0 where
   pub range : InRange (v .terms)
-  pub whole : v .usable + pendingTicks v ≡ v .terms .capacity
-  pub few : length (v .pending) ≤ mostPending
+  pub most : v .usable + pendingTicks v ≤ v .terms .capacity
+  pub shows : Shows v
+
+pub orderly-formed : (low high now : ℕ) (v : Tenant) → Orderly low high now v → Formed v
+orderly-formed low high now v k =
+    by-kind (v .terms) (λ e. queue e (k .sporadic e .0))
+    (λ n. let r = k .refills n in refills n (k .range .kind-high) (r .0) (r .2) (r .3))
 
 pub kept-fits : (low high now : ℕ) (v : Tenant) → Orderly low high now v → Fits v
-kept-fits low high now v k = record { range = k .range; whole = k .whole; few = k .few }
+kept-fits low high now v k =
+    record { range = k .range; most = k .most; shows = (k .few, orderly-formed low high now v k) }
 
 -- the rules count those so named; one that stands once stands nowhere else
 pub nowhere : (t : ℕ) (vs : List Tenant) → count (named t) vs ≡ 0 → All (λ e. e .tunnel ≡ t → ⊥) (termsOf vs)
@@ -87,7 +93,6 @@ between-at k calls e r =
     record {
       few = reach .lawful .few;
       each = reach .lawful .sound;
-      sorted = subst (λ (x : Card). All (λ v. Sorted (v .pending)) (x .vcpus)) (sym e) (meaning calls .sorted);
       distinct = once-distinct (k .vcpus) (reach .lawful .once);
       ranked = r;
     }

@@ -3,6 +3,7 @@ pub mod Shift
 pub mod Laid
 pub mod Written
 pub mod Return
+pub mod Refill
 pub mod Places
 pub mod Charge
 pub mod Invariant

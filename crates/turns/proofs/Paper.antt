@@ -8,7 +8,7 @@ use Rattle.units.specs.Units.{moment, amount}
 use Rattle.rules.specs.Turn.{Reply as Said}
 use Rattle.rules.specs.Turn.{Report as Told}
 use Rattle.rules.specs.Turn.{ok, refused, turn}
-use Rattle.rules.proofs.Tests.{clash}
+use Rattle.rules.proofs.Tests.{clash, no-some}
 use Rattle.turns.specs.declared.Holder.{Holder}
 use Rattle.turns.specs.declared.Holder.the-variants.{Idle}
 use Rattle.turns.specs.declared.Holder.the-variants.{Vcpu as Held}
@@ -23,10 +23,13 @@ use Rattle.turns.specs.declared.Core.{Core}
 use Rattle.turns.specs.declared.Look.{Look}
 use Rattle.turns.specs.declared.Presence.{Presence}
 use Rattle.turns.specs.declared.Presence.the-variants.{OnCard, Absent}
+use Rattle.turns.specs.declared.Boundary.{Boundary}
+use Rattle.turns.specs.declared.Boundary.the-variants.{Unset as NoBoundary, At as NextAt}
 use Rattle.turns.specs.declared.Status.{Status}
 use Rattle.turns.specs.declared.Vcpu.{Vcpu}
 use Rattle.turns.specs.Written.{card, coreOf}
 use Rattle.turns.specs.Calls.{callOf, holderSaid, paperHolder, paperPresence, paperReply, paperTimer, replySaid, timerSaid, turned}
+use Rattle.turns.specs.Calls.{paperBoundary}
 
 pub paper-holder : (o : Option ℕ) → paperHolder (holderSaid o) ≡ o
 paper-holder none = refl
@@ -100,9 +103,18 @@ same-presence OnCard Absent e = clash e
 same-presence Absent OnCard e = clash (sym e)
 same-presence Absent Absent e = refl
 
-pub same-look : (a b : Look) → paperPresence (a .presence) ≡ paperPresence (b .presence) → a .vcpu ≡ b .vcpu → a ≡ b
-same-look a b p q = same (a .presence) (b .presence) (a .vcpu) (b .vcpu) (same-presence (a .presence) (b .presence) p) q
+same-boundary : (a b : Boundary) → paperBoundary a ≡ paperBoundary b → a ≡ b
+same-boundary NoBoundary NoBoundary e = refl
+same-boundary NoBoundary (NextAt m) e = no-some e
+same-boundary (NextAt m) NoBoundary e = no-some (sym e)
+same-boundary (NextAt m) (NextAt n) e = let f : m .0 ≡ n .0 = cc in ap (λ (t : ℕ). NextAt (moment t)) f
+
+pub same-look : (a b : Look) → paperPresence (a .presence) ≡ paperPresence (b .presence) → a .vcpu ≡ b .vcpu
+    → paperBoundary (a .boundary) ≡ paperBoundary (b .boundary) → a ≡ b
+same-look a b p q r =
+    same (a .presence) (b .presence) (a .vcpu) (b .vcpu) (a .boundary) (b .boundary)
+    (same-presence (a .presence) (b .presence) p) q (same-boundary (a .boundary) (b .boundary) r)
   where
-    same : (x x′ : Presence) (v v′ : Vcpu) → x ≡ x′ → v ≡ v′
-        → _≡_ {A = Look} (record { presence = x; vcpu = v }) (record { presence = x′; vcpu = v′ })
-    same x x′ v v′ p q = rw (p, q)
+    same : (x x′ : Presence) (v v′ : Vcpu) (n n′ : Boundary) → x ≡ x′ → v ≡ v′ → n ≡ n′
+        → _≡_ {A = Look} (record { presence = x; vcpu = v; boundary = n }) (record { presence = x′; vcpu = v′; boundary = n′ })
+    same x x′ v v′ n n′ p q r = rw (p, q, r)

@@ -114,7 +114,7 @@ module _ (calls : List Asking) (now : Moment) (change : Change) where
               reports = paper ∙ told-so r e ∙ ap (λ (k : Card). ok (report k)) (sym steps);
               at-now = ap (λ (k : Card). k .last) shown ∙ table old call .at-now (no-row r e);
               budgets = carried (λ k vs. Budgets k call vs) (budgets (callsOf calls) call (none-after (no-row r e)));
-              marks = carried (λ k vs. Marks (k .vcpus) (asked change) vs) (marks (callsOf calls) call (none-after (no-row r e)));
+              marks = carried (λ k vs. Marks (k .vcpus) (now .0) (asked change) vs) (marks (callsOf calls) call (none-after (no-row r e)));
             };
       }
 

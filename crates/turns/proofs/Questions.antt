@@ -3,7 +3,7 @@ use Prim.Native.Nat.{ℕ, zero, suc, _≤_, _<_}
 use mathlib.Core.Path.{_≡_, refl, ap, sym, _∙_}
 use mathlib.Core.Bool.{Bool, true, false, cond, _||_}
 use mathlib.Core.List.{List, [], _∷_}
-use mathlib.Core.Option.{none, some}
+use mathlib.Core.Option.{Option, none, some}
 use native.Mathlib.Omega.{arith}
 use lib.Dec.{ltb}
 use lib.ListN.{length, getD}
@@ -16,17 +16,20 @@ use Rattle.rules.specs.Vcpu.{named}
 use Rattle.rules.specs.Vcpu.{Vcpu as Tenant}
 use Rattle.rules.specs.Card.{onCard, find}
 use Rattle.rules.proofs.Tests.{clash}
+use Rattle.turns.specs.declared.Kind.the-variants.{Sporadic}
 use Rattle.turns.specs.declared.Vcpu.{Vcpu}
 use Rattle.turns.specs.declared.Core.{Core}
 use Rattle.turns.specs.declared.Holder.the-variants.{Vcpu as Held}
 use Rattle.turns.specs.declared.Holder.the-variants.{Idle as Idle′}
 use Rattle.turns.specs.Written.{idle, nobody, tunnelOf, written, noTenant, card, place, runningAt}
-use Rattle.turns.proofs.Invariant.{SoundCore, between}
+use Rattle.turns.proofs.Invariant.{SoundCore, between, orderly-formed}
 use Rattle.turns.specs.Places.{seek, holderOf}
-use Rattle.turns.specs.Calls.{holderSaid, looked, paperHolder}
+use Rattle.turns.specs.Calls.{holderSaid, looked, boundaryOf, paperHolder}
 use Rattle.turns.proofs.Laid.{laid-get, laid-length}
 use Rattle.turns.proofs.Places.{place-there, seek-laid}
 use Rattle.rules.proofs.Lists.{all-imp}
+use Rattle.turns.proofs.Written.{Formed, boundaryIn, boundary-written}
+use Rattle.turns.proofs.Ranked.{all-get}
 use Rattle.turns.proofs.Paper.{paper-holder}
 use Rattle.turns.proofs.Stage.{places-are, ids-are}
 
@@ -51,19 +54,22 @@ find-absent t (v ∷ vs) e = go (named t v) e (find-absent t vs)
     go true f rec = clash f
     go false f rec = rec f
 
--- what a look answers: whether the identifier is on the card, and the record
-pub record Sought (c : Core) (t : ℕ) (there : Bool) (v : Vcpu) : Type 0 where
+-- what a look answers: whether the identifier is on the card, the record, and the next boundary
+pub record Sought (c : Core) (t : ℕ) (there : Bool) (v : Vcpu) (next : Option ℕ) : Type 0 where
   pub present : there ≡ onCard t (card c .vcpus)
   pub is : v ≡ looked (find t (card c .vcpus))
+  pub boundary : next ≡ boundaryOf (find t (card c .vcpus))
 
 module _ (c : Core) (r : SoundCore c) (t : ℕ) where
   abbrev vs : List Tenant
   vs = card c .vcpus
 
-  absent : onCard t vs ≡ false → Sought c t false (written noTenant)
-  absent e = record { present = sym e; is = ap looked (sym (find-absent t vs e)) }
+  absent : onCard t vs ≡ false → Sought c t false (written noTenant) none
+  absent e =
+      let f : none ≡ find t vs = sym (find-absent t vs e) in
+      record { present = sym e; is = ap looked f; boundary = ap boundaryOf f }
 
-  pub wide-sought : largestTunnel < t → Sought c t false (written noTenant)
+  pub wide-sought : largestTunnel < t → Sought c t false (written noTenant) none
   wide-sought h = absent (on-wide t vs h (all-imp (λ v g. g .range .tunnel-high) vs (between c r .each)))
 
   module _ (h : t ≤ largestTunnel) where
@@ -71,25 +77,34 @@ module _ (c : Core) (r : SoundCore c) (t : ℕ) where
     sought b e =
         ap (seek t) (ids-are c r) ∙ seek-laid t 32 vs h (between c r .few) ∙ ap (λ (x : Bool). cond x (place t vs) 32) e
 
-    pub there-sought : (z : Vcpu) → seek t (c .ids) < 32 → Sought c t true (getD (c .places) (seek t (c .ids)) z)
+    pub there-sought : (z : Vcpu) → seek t (c .ids) < 32
+        → Sought c t true (getD (c .places) (seek t (c .ids)) z) (boundaryIn (getD (c .places) (seek t (c .ids)) z))
     there-sought z g = go (onCard t vs) refl
       where
-        go : (b : Bool) → onCard t (card c .vcpus) ≡ b → Sought c t true (getD (c .places) (seek t (c .ids)) z)
+        go : (b : Bool) → onCard t (card c .vcpus) ≡ b
+            → Sought c t true (getD (c .places) (seek t (c .ids)) z) (boundaryIn (getD (c .places) (seek t (c .ids)) z))
         go true e =
+            let v : Tenant = getD vs (place t vs) noTenant in
+            let there : getD (c .places) (seek t (c .ids)) z ≡ written v =
+            ap (λ (i : ℕ). getD (c .places) i z) (sought true e)
+            ∙ ap (λ (p : List Vcpu). getD p (place t vs) z) (places-are c r)
+            ∙ laid-get written (written noTenant) 32 vs (place t vs) noTenant z (place-there t vs e) (between c r .few) in
             record {
               present = sym e;
-              is =
-                  ap (λ (i : ℕ). getD (c .places) i z) (sought true e)
-                  ∙ ap (λ (p : List Vcpu). getD p (place t vs) z) (places-are c r)
-                  ∙ laid-get written (written noTenant) 32 vs (place t vs) noTenant z (place-there t vs e) (between c r .few)
-                  ∙ ap looked (sym (find-there t vs e));
+              is = there ∙ ap looked (sym (find-there t vs e));
+              boundary =
+                  ap boundaryIn there
+                  ∙ boundary-written v
+                  (all-get Formed vs (place t vs) noTenant
+                  (all-imp (λ w s. orderly-formed _ _ _ w s) vs (between c r .each)) (place-there t vs e))
+                  ∙ ap boundaryOf (sym (find-there t vs e));
             }
         go false e = absurd (omega (arith, sought false e))
 
-    pub absent-sought : 32 ≤ seek t (c .ids) → Sought c t false (written noTenant)
+    pub absent-sought : 32 ≤ seek t (c .ids) → Sought c t false (written noTenant) none
     absent-sought g = go (onCard t vs) refl
       where
-        go : (b : Bool) → onCard t (card c .vcpus) ≡ b → Sought c t false (written noTenant)
+        go : (b : Bool) → onCard t (card c .vcpus) ≡ b → Sought c t false (written noTenant) none
         go true e = absurd (omega (arith, sought true e, place-there t vs e, between c r .few))
         go false e = absent e
 
@@ -126,4 +141,5 @@ unread =
       priority = 0;
       runnable = false;
       count = 0;
+      kind = Sporadic;
     }

@@ -12,7 +12,7 @@ use borrow.Author.Tests.{ltb-false, lt-ltb, le-ltb, lt-leb, not-false}
 use Rattle.units.specs.Units.{moment, tunnel}
 use Rattle.units.specs.declared.Moment.{Moment}
 use Rattle.units.specs.declared.Tunnel.{Tunnel}
-use Rattle.rules.specs.Limits.{largestTime, largestTunnel, mostVcpus, inRange}
+use Rattle.rules.specs.Limits.{largestTime, largestTunnel, largestKind, mostVcpus, inRange}
 use Rattle.rules.specs.Vcpu.{Vcpu as Tenant}
 use Rattle.rules.specs.Card.{Card, onCard}
 use Rattle.rules.specs.Refuse.{row, rowLate, admitRows, namingRows, callRows, refusal}
@@ -62,20 +62,21 @@ module _ (vs : List Tenant) (few : length vs ≤ 32) where
   unfolding judgeAdmit
   admit-same d =
       row-same (ltb largestTunnel t) 4 0
-      (verdictRow (not (inRange (d .period .0) (d .capacity .0))) 5 0 (verdictRow (ltb (seek t (idsOf vs)) nowhere) 6 0 full))
-      (row (not (inRange (d .period .0) (d .capacity .0))) 5 0 (row (onCard t vs) 6 0 fullRow))
-      (λ f. row-same (not (inRange (d .period .0) (d .capacity .0))) 5 0 (verdictRow (ltb (seek t (idsOf vs)) nowhere) 6 0 full)
-      (row (onCard t vs) 6 0 fullRow)
-      (λ g. inner (onCard t vs) refl (sought t (onCard t vs) f refl)))
+      (verdictRow (not (inRange (d .period .0) (d .capacity .0))) 5 0 (verdictRow (ltb largestKind (d .kind)) 10 0 there))
+      (row (not (inRange (d .period .0) (d .capacity .0))) 5 0 (row (ltb largestKind (d .kind)) 10 0 thereRow))
+      (λ f. row-same (not (inRange (d .period .0) (d .capacity .0))) 5 0 (verdictRow (ltb largestKind (d .kind)) 10 0 there)
+      (row (ltb largestKind (d .kind)) 10 0 thereRow)
+      (λ g. row-same (ltb largestKind (d .kind)) 10 0 there thereRow
+      (λ h. inner (onCard t vs) refl (sought t (onCard t vs) f refl))))
     where
       t : ℕ
       t = d .tunnel .0
 
-      full : Verdict
-      full = verdictRow (leb mostVcpus (length vs)) 8 0 Accept
+      there : Verdict
+      there = verdictRow (ltb (seek t (idsOf vs)) nowhere) 6 0 (verdictRow (leb mostVcpus (length vs)) 8 0 Accept)
 
-      fullRow : Option Row
-      fullRow = row (leb mostVcpus (length vs)) 8 0 none
+      thereRow : Option Row
+      thereRow = row (onCard t vs) 6 0 (row (leb mostVcpus (length vs)) 8 0 none)
 
       inner : (b : Bool) → onCard (d .tunnel .0) vs ≡ b → seek (d .tunnel .0) (idsOf vs) ≡ cond b (place (d .tunnel .0) vs) nowhere
           → verdictRow (ltb (seek (d .tunnel .0) (idsOf vs)) nowhere) 6 0 (verdictRow (leb mostVcpus (length vs)) 8 0 Accept)

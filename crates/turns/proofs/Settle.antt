@@ -2,8 +2,7 @@
 -- written is shown again. Assumes nothing.
 use Prim.Native.Nat.{ℕ, suc, _+_, _≤_, _<_, min}
 use mathlib.Core.Path.{_≡_, refl, ap, sym, _∙_, subst}
-use mathlib.Core.Bool.{Bool, _&&_}
-use mathlib.Core.List.{List, [], _∷_, map}
+use mathlib.Core.List.{List, [], _∷_, _++_, map}
 use mathlib.Core.Option.{Option, none, some}
 use native.Mathlib.Omega.{arith}
 use lib.ListN.{length, getD, take, drop, length-take, drop-of-length-le}
@@ -15,11 +14,11 @@ use Rattle.units.specs.declared.Moment.{Moment}
 use Rattle.units.specs.declared.Tunnel.{Tunnel}
 use Rattle.rules.specs.Lists.{keep, All}
 use Rattle.rules.specs.Limits.{largestTime, largestPeriod}
-use Rattle.rules.specs.Vcpu.{Entry, moreUrgent}
+use Rattle.rules.specs.Vcpu.{Entry}
 use Rattle.rules.specs.Vcpu.{Vcpu as Tenant}
 use Rattle.rules.specs.Card.{Card, empty}
 use Rattle.rules.specs.Choose.{ready, choose, runs, usableOf}
-use Rattle.rules.specs.Timer.{earlier, earliest, returns, timer}
+use Rattle.rules.specs.Timer.{earlier, earliest, times, comes, nexts, runnable, above, timer}
 use Rattle.rules.specs.Turn.{settled, report, answered, turn, ok, afterReturn}
 use Rattle.rules.specs.Change.{change as changeRule}
 use Rattle.rules.specs.Refuse.{refusal}
@@ -33,76 +32,77 @@ use Rattle.turns.specs.declared.Refusal.{Refusal}
 use Rattle.turns.specs.declared.Reply.the-variants.{Done, No}
 use Rattle.rules.specs.Turn.{Call}
 use Rattle.rules.specs.History.{after}
-use Rattle.rules.specs.Meaning.{Sorted}
+use Rattle.rules.specs.Meaning.{Comes, return, boundary}
 use Rattle.rules.proofs.Tests.{no-some}
-use Rattle.rules.proofs.Lists.{all-imp, all-both, all-keep}
-use Rattle.rules.proofs.Queue.{Rising}
+use Rattle.rules.proofs.Lists.{all-imp, all-among}
+use Rattle.rules.proofs.Queue.{Rising, rising-wide}
 use Rattle.rules.proofs.Sound.{Sound}
-use Rattle.rules.proofs.Timer.{while-running}
+use Rattle.rules.proofs.Timer.{in-idle, while-running}
 use Rattle.turns.specs.declared.Vcpu.{Vcpu}
 use Rattle.turns.specs.declared.Core.{Core}
 use Rattle.turns.specs.declared.Pick.{Pick}
 use Rattle.turns.specs.declared.Holder.the-variants.{Vcpu as Held}
 use Rattle.turns.specs.Written.{never, idle, nobody, tunnelOf, written, noTenant, card}
 use Rattle.turns.specs.Written.{coreOf, place, placeOf, timerOf, timerAt, runningAt, tenants}
-use Rattle.turns.proofs.Invariant.{Ranked, termsOf, SoundCore, Between}
+use Rattle.turns.proofs.Invariant.{Ranked, termsOf, SoundCore, Between, orderly-formed}
 use Rattle.turns.specs.Steps.{picks, pickedOf, timerFor}
 use Rattle.turns.specs.Places.{holderOf}
 use Rattle.turns.specs.Calls.{holderSaid, timerSaid, asked, callOf, answerOf, turned}
 use Rattle.turns.proofs.Laid.{laid-get, laid-front}
-use Rattle.turns.proofs.Written.{tenants-laid}
+use Rattle.turns.proofs.Written.{Formed, queue, refills, tenants-laid}
 use Rattle.turns.proofs.Ranked.{all-get}
-use Rattle.turns.proofs.Choose.{append-all, Calm, idleWith, pickFor, scan}
+use Rattle.turns.proofs.Choose.{Rises, Calm, nexts-most, idleWith, pickFor, scan}
 use Rattle.turns.proofs.Rows.{idsOf}
-use Rattle.turns.proofs.Stage.{placesOf, Filled, small, all-fit, At, chosen-at}
-
--- no time that the rules name reaches this one
-abbrev bound : ℕ
-bound = 2000000000000
+use Rattle.turns.proofs.Stage.{placesOf, Filled, all-show, all-fit, At, chosen-at}
 
 rising-below : (low high : ℕ) (q : List Entry) → Rising low high q → All (λ e. e .due ≤ high) q
 rising-below low high [] h = tt
 rising-below low high (e ∷ q) h = (h .1, rising-below (e .due) high q (h .2))
 
-dues-below : (q : List Entry) (b : ℕ) → b ≤ bound → All (λ e. e .due ≤ b) q → All (λ t. t ≤ bound) (map (λ e. e .due) q)
-dues-below [] b l h = tt
-dues-below (e ∷ q) b l h = (omega (arith, h .0), dues-below q b l (h .1))
+rising-rises : (low high : ℕ) (q : List Entry) → low ≤ never → high ≤ never → Rising low high q → Rises low (map (λ e. e .due) q ++ [])
+rising-rises low high [] l m h = l
+rising-rises low high (e ∷ q) l m h = (h .0, rising-rises (e .due) high q (omega (arith, h .1)) m (h .2))
 
-returns-below : (now : ℕ) (vs : List Tenant) → now ≤ largestTime → All (Sound now) vs → All (λ t. t ≤ bound) (returns vs)
-returns-below now [] l h = tt
-returns-below now (v ∷ vs) l h =
-    append-all (λ t. t ≤ bound) (map (λ e. e .due) (v .pending)) (returns vs)
-    (dues-below (v .pending) (now + v .terms .period) (omega (arith, h .0 .range .period-high))
-    (rising-below (suc now) (now + v .terms .period) (v .pending)
-    (h .0 .order)))
-    (returns-below now vs l (h .1))
+-- what comes to a tenant between calls stands in order, and comes within one period
+module _ (now : ℕ) (v : Tenant) (l : now ≤ largestTime) (s : Sound now v) where
+  formed : Formed v
+  formed = orderly-formed (suc now) (now + v .terms .period) now v s
 
-early-below : (ts : List ℕ) (t : ℕ) → All (λ x. x ≤ bound) ts → earliest ts ≡ some t → t ≤ bound
-early-below [] t h e = no-some e
-early-below (x ∷ ts) t h e = go (earliest ts) e
-  where
-    go : (o : Option ℕ) → some (earlier x o) ≡ some t → t ≤ bound
-    go none f = let g : x ≡ t = cc in omega (arith, h .0)
-    go (some y) f = let g : min x y ≡ t = cc in omega (arith, h .0)
+  calm-one : Calm v
+  calm-one = record { rises = go formed; formed = formed }
+    where
+      go : Formed v → Rises 0 (comes v)
+      go (queue k e) =
+          subst (λ (o : Option ℕ). Rises 0 (map (λ f. f .due) (v .pending) ++ times o)) (sym e)
+          (rising-rises 0 (now + v .terms .period) (v .pending) (omega arith) (omega (arith, s .range .period-high))
+          (rising-wide (suc now) (now + v .terms .period) 0 (now + v .terms .period) (v .pending) (omega arith) (omega arith) (s .order)))
+      go (refills k h p b e) =
+          let r = s .refills k in
+          rw (p, r .3) (omega arith, omega (arith, r .5, s .range .period-high))
 
-calm : (now : ℕ) (vs : List Tenant) → now ≤ largestTime → All (Sound now) vs → All (λ v. Sorted (v .pending)) vs → All Calm vs
-calm now vs l =
-    all-both (λ v g s. record {
-      sorted = s;
-      near = all-imp (λ e f. omega (arith, g .range .period-high)) (v .pending)
-          (rising-below (suc now) (now + v .terms .period) (v .pending) (g .order));
-    }) vs
+  comes-below : (t : ℕ) → Comes v t → t ≤ now + v .terms .period
+  comes-below t (return e m) =
+      all-among (λ f. f .due ≤ now + v .terms .period) (v .pending)
+      (rising-below (suc now) (now + v .terms .period) (v .pending) (s .order)) e m
+  comes-below t (boundary b e) = go formed
+    where
+      go : Formed v → b ≤ now + v .terms .period
+      go (queue k n) = no-some (sym n ∙ e)
+      go (refills k h p c f) =
+          let r = s .refills k in
+          let x : some (r .2) ≡ some b = sym (r .3) ∙ e in
+          let y : r .2 ≡ b = cc in
+          omega (arith, r .5)
+
+calm : (now : ℕ) (vs : List Tenant) → now ≤ largestTime → All (Sound now) vs → All Calm vs
+calm now vs l = all-imp (λ v s. calm-one now v l s) vs
 
 module _ (now : ℕ) (vs : List Tenant) (l : now ≤ largestTime) (r : Between now vs) where
   usable-small : (v : Tenant) → At v vs → v .usable ≤ largestPeriod
   usable-small v a =
       let s : Sound now v = subst (Sound now) (a .is)
       (all-get (Sound now) vs (place (v .terms .tunnel) vs) noTenant (r .each) (a .inside)) in
-      omega (arith, s .whole, s .range .capacity-high, s .range .period-high)
-
-  early-small : (test : Tenant → Bool) (t : ℕ) → earliest (returns (keep test vs)) ≡ some t → t ≤ bound
-  early-small test t e = early-below (returns (keep test vs)) t
-      (returns-below now (keep test vs) l (all-keep (Sound now) test vs (r .each))) e
+      omega (arith, s .most, s .range .capacity-high, s .range .period-high)
 
   -- the timer stays below the time above all
   timer-below : (t : ℕ) → timer now vs (choose vs) ≡ some t → t < never
@@ -110,7 +110,10 @@ module _ (now : ℕ) (vs : List Tenant) (l : now ≤ largestTime) (r : Between n
   timer-below t = go (choose vs) refl
     where
       go : (o : Option Tenant) → choose vs ≡ o → timer now vs o ≡ some t → t < never
-      go none e f = omega (arith, early-small (λ w. w .runnable) t f)
+      go none e f =
+          let n = in-idle now vs t f .0 in
+          let s : Sound now (n .who) = all-among (Sound now) vs (r .each) (n .who) (n .on-card) in
+          omega (arith, comes-below now (n .who) l s t (n .comes), s .range .period-high)
       go (some v) e f =
           let a : At v vs = chosen-at ready vs v (r .distinct) e in
           let w = while-running now vs v in
@@ -142,7 +145,7 @@ module _ (now : ℕ) (vs : List Tenant) (l : now ≤ largestTime) (r : Between n
   shown-again =
       same (runningAt (placeOf (runs (choose vs)) vs) (idsOf vs)) (timerAt (timerOf (timer now vs (choose vs))))
       (tenants (length vs) (idsOf vs) (placesOf vs))
-      running-back timer-back (tenants-laid (tunnel nobody) (written noTenant) 32 vs (r .few) (small vs (all-fit now vs (r .each))))
+      running-back timer-back (tenants-laid (tunnel nobody) (written noTenant) 32 vs (r .few) (all-show vs (all-fit now vs (r .each))))
     where
       same : (a : Option ℕ) (b : Option ℕ) (c : List Tenant) → a ≡ runs (choose vs) → b ≡ timer now vs (choose vs) → c ≡ vs
           → _≡_ {A = Card} (record { last = now; running = a; timer = b; vcpus = c }) (record {
@@ -178,27 +181,18 @@ module _ (now : ℕ) (vs : List Tenant) (l : now ≤ largestTime) (r : Between n
       go none = refl
       go (some v) = refl
 
-  early-within : (test : Tenant → Bool) → timerOf (earliest (returns (keep test vs))) ≤ never
-  early-within test = go (earliest (returns (keep test vs))) refl
-    where
-      go : (o : Option ℕ) → earliest (returns (keep test vs)) ≡ o → timerOf o ≤ never
-      go none e = omega arith
-      go (some t) e = omega (arith, early-small test t e)
-
   timer-found : timerFor (moment now) (pickFor never 0 vs (choose vs)) ≡ moment (timerOf (timer now vs (choose vs)))
   unfolding timerFor timer
   timer-found = go (choose vs) refl
     where
       go : (o : Option Tenant) → choose vs ≡ o → timerFor (moment now) (pickFor never 0 vs o) ≡ moment (timerOf (timer now vs o))
-      go none e = ap moment (omega (arith, early-within (λ w. w .runnable)))
+      go none e = ap moment (omega (arith, nexts-most runnable vs (calm now vs l (r .each))))
       go (some v) e =
           let a : At v vs = chosen-at ready vs v (r .distinct) e in
           rw (lt-ltb (0 + place (v .terms .tunnel) vs) idle (omega (arith, a .inside, r .few)))
           (ap moment (omega (
             arith,
-            early-within (λ w. w .runnable && moreUrgent (w .terms) (v .terms)),
-            earlier-min (now + v .usable) (earliest
-                (returns (keep (λ w. w .runnable && moreUrgent (w .terms) (v .terms)) vs))) (omega (arith, usable-small v a)),
+            earlier-min (now + v .usable) (earliest (times (v .boundary) ++ nexts (keep (above v) vs))) (omega (arith, usable-small v a)),
             usable-small v a,
           )))
         where
@@ -226,7 +220,7 @@ module _ (now : ℕ) (vs : List Tenant) (l : now ≤ largestTime) (r : Between n
         ap (λ (q : List Vcpu). picks (idleWith never) 0 (take n q)) (f .places)
         ∙ ap (λ (k : ℕ). picks (idleWith never) 0 (take k (placesOf vs))) (f .count)
         ∙ ap (picks (idleWith never) 0) (laid-front written (written noTenant) 32 vs (r .few))
-        ∙ scan never 0 vs (omega arith) (omega (arith, r .few)) (calm now vs l (r .each) (r .sorted)) (r .ranked) (r .distinct)
+        ∙ scan never 0 vs (omega arith) (omega (arith, r .few)) (calm now vs l (r .each)) (r .ranked) (r .distinct)
 
     core-found : (k : Pick) → k ≡ pickFor never 0 vs (choose vs)
         → _≡_ {A = Core} (record { places = p; last = moment now; ids = ids; timer = timerFor (moment now) k; running = k .at; n = n })
@@ -266,9 +260,8 @@ scan-end k j n p h g = let l : length (take n p) ≤ j = omega (arith, length-ta
 pub turned-accepted : (c : Core) (now : Moment) (change : Change) → refusal (card c) (now .0) (asked change) ≡ none
     → turned c now change
     ≡ answerOf (record {
-      reply = ok (report (settled (now .0) (changeRule (asked change) (afterReturn (card c) (now .0)))));
-      card = settled (now .0)
-          (changeRule (asked change) (afterReturn (card c) (now .0)));
+      reply = ok (report (settled (now .0) (changeRule (now .0) (asked change) (afterReturn (card c) (now .0)))));
+      card = settled (now .0) (changeRule (now .0) (asked change) (afterReturn (card c) (now .0)));
     })
 unfolding turned turn
 turned-accepted c now change e = ap (λ (o : Option Row). answerOf (answered (card c) (callOf now change) o)) e
@@ -313,7 +306,7 @@ answer-found now vs l r p ids n f k e t te h he s se =
 
 -- the empty card
 empty-between : Between 0 []
-empty-between = record { few = omega arith; each = tt; sorted = tt; distinct = tt; ranked = tt }
+empty-between = record { few = omega arith; each = tt; distinct = tt; ranked = tt }
 
 pub empty-shown : card (coreOf empty) ≡ empty
 unfolding settled timer

@@ -10,6 +10,7 @@ use lib.ListN.{length, getD, set}
 use Rattle.rules.specs.Refuse.{admitRows, namingRows, callRows}
 use Rattle.units.specs.Units.{tunnel}
 use Rattle.units.specs.declared.Tunnel.{Tunnel}
+use Rattle.rules.specs.Limits.{largestPeriod}
 use Rattle.rules.specs.Lists.{keep, any}
 use Rattle.rules.specs.Vcpu.{admitted, named}
 use Rattle.rules.specs.Vcpu.{Description as Terms}
@@ -24,10 +25,11 @@ use Rattle.turns.specs.declared.Change.{Change}
 use Rattle.turns.specs.declared.Change.the-variants.{Admit, Wake, Block, Remove, Tick}
 use Rattle.turns.specs.Written.{nobody, tunnelOf, written, noTenant, place}
 use Rattle.turns.proofs.Invariant.{Ranked, Distinct, termsOf, Listed}
-use Rattle.turns.specs.Steps.{runnableAs}
+use Rattle.turns.specs.Steps.{usableAs, runnableAs}
 use Rattle.turns.specs.Places.{seek, namedAt, spotIn, inserted, removed}
 use Rattle.turns.specs.Calls.{described, asked}
 use Rattle.turns.proofs.Laid.{cutAt, laid-get, laid-put, laid-cut}
+use Rattle.turns.proofs.Written.{kind-left}
 use Rattle.turns.proofs.Places.{place-there, named-set, removed-cut, spotOf, spot-most, spot-laid, placed-put}
 use Rattle.turns.proofs.Ranked.{return-terms, named-terms, placed-ranked, keep-ranked}
 use Rattle.turns.proofs.Rows.{idsOf, there, named-seek}
@@ -69,34 +71,33 @@ return-listed k now l =
 
 -- admit
 module _ (p : List Vcpu) (ids : List Tunnel) (n : ℕ) (vs : List Tenant) (f : Filled p ids n vs) (r : Listed vs) where
-  module _ (d : Description) (q : Admits vs (described d)) where
-    spot-is : spotIn (described d) n p ids ≡ spotOf (admitted (described d)) vs
+  module _ (now : ℕ) (d : Description) (q : Admits vs (described d)) where
+    abbrev new : Tenant
+    new = admitted now (described d)
+
+    spot-is : spotIn (described d) n p ids ≡ spotOf new vs
     spot-is =
-        rw (f .places, f .tunnels, f .count)
-        (spot-laid (admitted (described d)) (written noTenant) (tunnel nobody) 32 vs (r .few))
+        rw (f .places, f .tunnels, f .count) (spot-laid new (written noTenant) (tunnel nobody) 32 vs (r .few))
 
     spot-fits : spotIn (described d) n p ids ≤ 32
-    spot-fits = omega (arith, spot-is, spot-most (admitted (described d)) vs, r .few)
+    spot-fits = omega (arith, spot-is, spot-most new vs, r .few)
 
     admit-filled :
-        Filled (inserted (spotIn (described d) n p ids) (written (admitted (described d))) p)
-        (inserted (spotIn (described d) n p ids) (d .tunnel) ids) (n + 1) (placed (admitted (described d)) vs)
+        Filled (inserted (spotIn (described d) n p ids) (written new) p) (inserted (spotIn (described d) n p ids) (d .tunnel) ids) (n + 1)
+        (placed new vs)
     admit-filled =
         record {
           places =
-              ap (λ (k : ℕ). inserted k (written (admitted (described d))) p) spot-is
-              ∙ ap (inserted (spotOf (admitted (described d)) vs) (written (admitted (described d)))) (f .places)
-              ∙ laid-put written (written noTenant) 32 vs (spotOf (admitted (described d)) vs) (admitted (described d))
-              (spot-most (admitted
-              (described d)) vs) (q .room)
-              ∙ ap placesOf (sym (placed-put (admitted (described d)) vs));
+              ap (λ (k : ℕ). inserted k (written new) p) spot-is
+              ∙ ap (inserted (spotOf new vs) (written new)) (f .places)
+              ∙ laid-put written (written noTenant) 32 vs (spotOf new vs) new (spot-most new vs) (q .room)
+              ∙ ap placesOf (sym (placed-put new vs));
           tunnels =
               ap (λ (k : ℕ). inserted k (d .tunnel) ids) spot-is
-              ∙ ap (inserted (spotOf (admitted (described d)) vs) (d .tunnel)) (f .tunnels)
-              ∙ laid-put tunnelOf (tunnel nobody) 32 vs (spotOf (admitted (described d)) vs) (admitted (described d)) (spot-most (admitted
-              (described d)) vs) (q .room)
-              ∙ ap idsOf (sym (placed-put (admitted (described d)) vs));
-          count = omega (arith, f .count, length-placed (admitted (described d)) vs);
+              ∙ ap (inserted (spotOf new vs) (d .tunnel)) (f .tunnels)
+              ∙ laid-put tunnelOf (tunnel nobody) 32 vs (spotOf new vs) new (spot-most new vs) (q .room)
+              ∙ ap idsOf (sym (placed-put new vs));
+          count = omega (arith, f .count, length-placed new vs);
         }
 
   module _ (t at : ℕ) (e : at ≡ place t vs) (h : place t vs < length vs) where
@@ -139,7 +140,7 @@ module _ (p : List Vcpu) (ids : List Tunnel) (n : ℕ) (vs : List Tenant) (f : F
 
 mark-written : (v : Tenant) (b : Bool) → runnableAs (written v) b ≡ written (setRunnable b v)
 unfolding written
-mark-written v b = refl
+mark-written v b = ap (usableAs (written v) ((written v) .due) b) (kind-left (v .terms) b (v .usable))
 
 -- what an accepted call asks for holds after steps 1 and 2 too
 module _ (k : Card) (now : ℕ) where
@@ -150,12 +151,12 @@ module _ (k : Card) (now : ℕ) where
   admits-after d e = admits (afterReturn k now) (described d) (rows-stepped k now (admit (described d)) ∙ e)
 
   pub change-ranked : (change : Change) → callRows (k .vcpus) (asked change) ≡ none → Ranked (termsOf (k .vcpus))
-      → Ranked (termsOf (changeRule (asked change) (afterReturn k now)))
+      → Ranked (termsOf (changeRule now (asked change) (afterReturn k now)))
   change-ranked change e r = go change e (subst Ranked (sym (return-terms k now)) r)
     where
       go : (change : Change) → callRows (k .vcpus) (asked change) ≡ none → Ranked (termsOf (afterReturn k now))
-          → Ranked (termsOf (changeRule (asked change) (afterReturn k now)))
-      go (Admit d) m s = placed-ranked (admitted (described d)) (afterReturn k now) (admits-after d m .not-there) s
+          → Ranked (termsOf (changeRule now (asked change) (afterReturn k now)))
+      go (Admit d) m s = placed-ranked (admitted now (described d)) (afterReturn k now) (admits-after d m .not-there) s
       go (Wake t) m s = subst Ranked (sym (named-terms (t .0) (setRunnable true) (afterReturn k now) (λ v. refl))) s
       go (Block t) m s = subst Ranked (sym (named-terms (t .0) (setRunnable false) (afterReturn k now) (λ v. refl))) s
       go (Remove t) m s = keep-ranked (λ v. not (named (t .0) v)) (afterReturn k now) s
@@ -171,22 +172,22 @@ pub record Table : Type 0 where
 abbrev marked : Bool → ℕ → Vcpu → Table → Table
 marked b at z x = record { places = set (x .places) at (runnableAs (getD (x .places) at z) b); ids = x .ids; n = x .n }
 
-abbrev pub changedTable : Change → ℕ → Vcpu → Table → Table
-changedTable (Admit d) at z x =
+abbrev pub changedTable : ℕ → Change → ℕ → Vcpu → Table → Table
+changedTable now (Admit d) at z x =
     record {
-      places = inserted (spotIn (described d) (x .n) (x .places) (x .ids)) (written (admitted (described d))) (x .places);
+      places = inserted (spotIn (described d) (x .n) (x .places) (x .ids)) (written (admitted now (described d))) (x .places);
       ids = inserted (spotIn (described d) (x .n) (x .places) (x .ids)) (d .tunnel) (x .ids);
       n = x .n + 1;
     }
-changedTable (Wake t) at z x = marked true at z x
-changedTable (Block t) at z x = marked false at z x
-changedTable (Remove t) at z x =
+changedTable now (Wake t) at z x = marked true at z x
+changedTable now (Block t) at z x = marked false at z x
+changedTable now (Remove t) at z x =
     record { places = removed at (written noTenant) (x .places); ids = removed at (tunnel nobody) (x .ids); n = x .n - 1 }
-changedTable Tick at z x = x
+changedTable now Tick at z x = x
 
 -- what it asks of the place
 abbrev pub Changeable : Change → ℕ → Table → Type 0
-Changeable (Admit d) at x = spotIn (described d) (x .n) (x .places) (x .ids) ≤ 32
+Changeable (Admit d) at x = (spotIn (described d) (x .n) (x .places) (x .ids) ≤ 32) × (d .period .0 ≤ largestPeriod)
 Changeable (Wake t) at x = at < 32
 Changeable (Block t) at x = at < 32
 Changeable (Remove t) at x = (at < 32) × (1 ≤ x .n)
@@ -218,15 +219,18 @@ module _ (k : Card) (now : ℕ) (l : Listed (k .vcpus)) (x : Table) (f : FilledB
 
   pub changeable : (change : Change) (at : ℕ) → at ≡ namedAt (idsOf (k .vcpus)) change → callRows (k .vcpus) (asked change) ≡ none
       → Changeable change at x
-  changeable (Admit d) at e m = spot-fits (x .places) (x .ids) (x .n) (afterReturn k now) f r d (admits-after k now d m)
+  changeable (Admit d) at e m =
+      let q : Admits (afterReturn k now) (described d) = admits-after k now d m in
+      (spot-fits (x .places) (x .ids) (x .n) (afterReturn k now) f r now d q, q .range .period-high)
   changeable (Wake t) at e m = omega (arith, small (t .0) at e m, f .count, r .few)
   changeable (Block t) at e m = omega (arith, small (t .0) at e m, f .count, r .few)
   changeable (Remove t) at e m = (omega (arith, small (t .0) at e m, f .count, r .few), omega (arith, small (t .0) at e m))
   changeable Tick at e m = tt
 
   pub change-filled : (change : Change) (at : ℕ) (z : Vcpu) → at ≡ namedAt (idsOf (k .vcpus)) change
-      → callRows (k .vcpus) (asked change) ≡ none → FilledBy (changedTable change at z x) (changeRule (asked change) (afterReturn k now))
-  change-filled (Admit d) at z e m = admit-filled (x .places) (x .ids) (x .n) (afterReturn k now) f r d (admits-after k now d m)
+      → callRows (k .vcpus) (asked change) ≡ none
+      → FilledBy (changedTable now change at z x) (changeRule now (asked change) (afterReturn k now))
+  change-filled (Admit d) at z e m = admit-filled (x .places) (x .ids) (x .n) (afterReturn k now) f r now d (admits-after k now d m)
   change-filled (Wake t) at z e m = marks (t .0) at true z e m
   change-filled (Block t) at z e m = marks (t .0) at false z e m
   change-filled (Remove t) at z e m =

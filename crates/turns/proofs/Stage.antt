@@ -19,7 +19,6 @@ use Rattle.rules.specs.Vcpu.{Vcpu as Tenant}
 use Rattle.rules.specs.Charge.{charged, charge}
 use Rattle.rules.specs.Choose.{ready, better, mostUrgent, choose, runs}
 use Rattle.rules.specs.Turn.{afterCharge}
-use Rattle.rules.specs.Limits.{mostPending}
 use Rattle.rules.specs.History.{holds as isHeldBy}
 use Rattle.rules.proofs.Tests.{no-some}
 use Rattle.rules.proofs.Lists.{all-imp}
@@ -34,7 +33,7 @@ use Rattle.turns.specs.Written.{idle, nobody, amountOf, tunnelOf, writte
 use Rattle.turns.proofs.Invariant.{Distinct, termsOf, Fits, SoundCore, between, card-reached, kept-fits}
 use Rattle.turns.specs.Steps.{chargedOf, Chargeable}
 use Rattle.turns.proofs.Laid.{laid-get, laid-set}
-use Rattle.turns.proofs.Written.{tenants-laid}
+use Rattle.turns.proofs.Written.{Shows, tenants-laid}
 use Rattle.turns.proofs.Places.{named-set}
 use Rattle.turns.proofs.Charge.{charged-same}
 use Rattle.turns.proofs.Ranked.{all-get, all-set}
@@ -58,13 +57,13 @@ pub record Filled (p : List Vcpu) (ids : List Tunnel) (n : ℕ) (vs : List Tenan
   pub count : n ≡ length vs
 
 pub filled-tenants : (p : List Vcpu) (ids : List Tunnel) (n : ℕ) (vs : List Tenant) → length vs ≤ 32
-    → All (λ v. length (v .pending) ≤ 8) vs
+    → All Shows vs
     → Filled p ids n vs → tenants n ids p ≡ vs
 filled-tenants p ids n vs few each f =
     rw (f .places, f .tunnels, f .count) (tenants-laid (tunnel nobody) (written noTenant) 32 vs few each)
 
-pub small : (vs : List Tenant) → All Fits vs → All (λ v. length (v .pending) ≤ mostPending) vs
-small vs r = all-imp (λ v g. g .few) vs r
+pub all-show : (vs : List Tenant) → All Fits vs → All Shows vs
+all-show vs r = all-imp (λ v g. g .shows) vs r
 
 pub all-fit : (last : ℕ) (vs : List Tenant) → All (Sound last) vs → All Fits vs
 all-fit last vs h = all-imp (λ v g. kept-fits (suc last) (last + v .terms .period) last v g) vs h
@@ -236,7 +235,7 @@ module _ (c : Core) (r : SoundCore c) (now : Moment) (change : Change) (m : Pass
         few = sound .few;
         onward = m .not-before;
         enough = enough;
-        fits = λ k. omega (arith, slot-most 8 k (w .pending), sound .whole, sound .range .capacity-high, sound .range .period-high);
+        fits = λ k. omega (arith, slot-most 8 k (w .pending), sound .most, sound .range .capacity-high, sound .range .period-high);
       }
 
   held-chargeable : (z : Vcpu) → Chargeable (getD (c .places) (c .running) z) (c .last) now
@@ -279,7 +278,7 @@ module _ (c : Core) (r : SoundCore c) (now : Moment) (change : Change) (m : Pass
     where
       written-charge : chargedOf (written w) (moment (card c .last)) now ≡ written (charged (card c .last) (now .0) w)
       written-charge = charged-same (card c .last) (now .0 - card c .last) w (sound .few)
-          (omega (arith, m .not-above, m .not-before, sound .range .period-high))
+          (omega (arith, m .not-above, m .not-before, sound .range .period-high)) (λ e. sound .sporadic e .0)
           (now .0) (m .not-before) refl
 
       same : set (c .places) (c .running) (chargedOf (getD (c .places) (c .running) z) (c .last) now)

@@ -2,11 +2,12 @@
 -- Assumes nothing.
 use Prim.Native.Nat.{ℕ, zero, suc, _+_, _≤_, _<_}
 use mathlib.Core.Path.{_≡_, refl, ap, sym, _∙_, subst}
-use mathlib.Core.Bool.{false, not}
+use mathlib.Core.Bool.{Bool, true, false, cond, not}
 use mathlib.Core.List.{List, [], _∷_, map}
+use mathlib.Core.Option.{Option, none, some}
 use native.Mathlib.Omega.{arith}
 use native.Mathlib.Numerals.{add-one}
-use lib.Dec.{ltb}
+use lib.Dec.{leb, ltb}
 use lib.ListN.{length, getD, set}
 use lib.Seq.{set-getD}
 use borrow.Author.Tests.{ltb-true, not-false}
@@ -16,17 +17,19 @@ use Rattle.units.specs.declared.Tunnel.{Tunnel}
 use Rattle.rules.specs.Lists.{All, sum}
 use Rattle.rules.specs.Limits.{largestTime}
 use Rattle.rules.specs.Vcpu.{Vcpu as Tenant}
-use Rattle.rules.specs.Return.{returned, bring}
+use Rattle.rules.specs.Return.{returned, refill, refilled, broughtIn, bring}
+use Rattle.rules.proofs.Tests.{clash}
+use Rattle.rules.proofs.ThreeKinds.{terms-returned}
 use Rattle.turns.specs.declared.Vcpu.{Vcpu}
 use Rattle.turns.specs.Laid.{laid}
 use Rattle.turns.specs.Written.{nobody, tunnelOf, written, noTenant, tenants}
 use Rattle.turns.proofs.Invariant.{Fits}
-use Rattle.turns.specs.Steps.{headOf, bare, Returnable}
+use Rattle.turns.specs.Steps.{hasQueue, headOf, bare, Returnable}
 use Rattle.turns.proofs.Laid.{laid-get, laid-set}
-use Rattle.turns.proofs.Written.{under, shown-written}
+use Rattle.turns.proofs.Written.{under, Formed, queue, refills, kind-queue, shown-written}
 use Rattle.turns.proofs.Return.{head-written, returned-none}
 use Rattle.turns.proofs.Ranked.{all-get}
-use Rattle.turns.proofs.Stage.{placesOf, Filled, filled-tenants, small}
+use Rattle.turns.proofs.Stage.{placesOf, Filled, filled-tenants, all-show}
 
 module _ {A : Type 0} (f : A → A) where
   -- the first i mapped
@@ -67,7 +70,7 @@ pub sweep-start : (now : Moment) (ids : List Tunnel) (n : ℕ) (p : List Vcpu) (
     → Filled p ids n vs
     → All Fits vs → Sweeping now ids n p p 0
 sweep-start now ids n p vs h l f r =
-    let e : tenants n ids p ≡ vs = filled-tenants p ids n vs (omega (arith, f .count)) (small vs r) f in
+    let e : tenants n ids p ≡ vs = filled-tenants p ids n vs (omega (arith, f .count)) (all-show vs r) f in
     record {
       filled = subst (Filled p ids n) (sym e) f;
       fits = subst (All Fits) (sym e) r;
@@ -79,29 +82,48 @@ sweep-start now ids n p vs h l f r =
 
 module _ (now : Moment) (x : Tenant) (h : now .0 ≤ largestTime) (r : Fits x) where
   bared : bare (written x) ≡ under 0 x
-  bared = shown-written (tunnel 0) x (r .few)
+  bared = shown-written (tunnel 0) x (r .shows)
 
   rewritten : written (under 0 x) ≡ written x
   unfolding written
   rewritten = refl
 
+  empty : Formed x → hasQueue ((written x) .kind) ≡ false → x .pending ≡ []
+  unfolding written
+  empty (queue k e) n = clash (sym (kind-queue (x .terms .kind) ∙ rw k) ∙ n)
+  empty (refills k h p b e) n = p
+
   returnable : Returnable (written x) now
+  unfolding written
   returnable =
       record {
         written = sym (ap written bared ∙ rewritten);
-        few = subst (λ (v : Tenant). length (v .pending) ≤ 8) (sym bared) (r .few);
+        few = subst (λ (v : Tenant). length (v .pending) ≤ 8) (sym bared) (r .shows .0);
         fits = subst (λ (v : Tenant). v .usable + sum (λ e. e .amount) (v .pending) < 4294967296) (sym bared) (omega
-            (arith, r .whole, r .range .capacity-high, r .range .period-high));
-        time = omega arith;
+            (arith, r .most, r .range .capacity-high, r .range .period-high));
+        no-queue = λ n. subst (λ (v : Tenant). v .pending ≡ []) (sym bared) (empty (r .shows .1) n);
+        period = r .range .period-low;
+        time = omega (arith, r .range .period-high);
       }
 
-  returned-bare : written (returned (now .0) (bare (written x))) ≡ written (returned (now .0) x)
+  untagged : (o : Option ℕ)
+      → written (refill (now .0) o (broughtIn (now .0) (under 0 x))) ≡ written (refill (now .0) o (broughtIn (now .0) x))
   unfolding written
-  returned-bare = ap (λ (v : Tenant). written (returned (now .0) v)) bared
+  untagged none = refl
+  untagged (some b) = go (leb b (now .0))
+    where
+      go : (t : Bool)
+          → written (cond t (refilled (now .0) b (broughtIn (now .0) (under 0 x))) (broughtIn (now .0) (under 0 x)))
+          ≡ written (cond t (refilled (now .0) b (broughtIn (now .0) x)) (broughtIn (now .0) x))
+      go true = refl
+      go false = refl
+
+  returned-bare : written (returned (now .0) (bare (written x))) ≡ written (returned (now .0) x)
+  returned-bare = ap (λ (v : Tenant). written (returned (now .0) v)) bared ∙ untagged (x .boundary)
 
   rests : not (ltb (now .0) (headOf (written x))) ≡ false → returned (now .0) x ≡ x
   rests e =
-      returned-none (now .0) x
+      returned-none (now .0) x (omega arith) (r .shows .1)
       (subst (λ (n : ℕ). now .0 < n) (head-written x)
       (ltb-true (now .0) (headOf (written x)) (not-false (ltb (now .0) (headOf (written x))) e)))
 
@@ -158,7 +180,7 @@ ids-kept : (now k : ℕ) (z : Tunnel) (vs : List Tenant) → laid k tunnelOf z (
 unfolding laid
 ids-kept now zero z vs = refl
 ids-kept now (suc k) z [] = refl
-ids-kept now (suc k) z (v ∷ vs) = ap (λ (r : List Tunnel). tunnelOf v ∷ r) (ids-kept now k z vs)
+ids-kept now (suc k) z (v ∷ vs) = rw (terms-returned now v) (ap (λ (r : List Tunnel). tunnelOf v ∷ r) (ids-kept now k z vs))
 
 bring-length : (now : ℕ) (vs : List Tenant) → length (bring now vs) ≡ length vs
 bring-length now [] = refl
@@ -169,7 +191,7 @@ module _ (now : Moment) (ids : List Tunnel) (n : ℕ) (p₀ p : List Vcpu) (i : 
     (vs : List Tenant)
     (f : Filled p₀ ids n vs) (r : All Fits vs) where
   all : tenants n ids p₀ ≡ vs
-  all = filled-tenants p₀ ids n vs (omega (arith, f .count, s .few)) (small vs r) f
+  all = filled-tenants p₀ ids n vs (omega (arith, f .count, s .few)) (all-show vs r) f
 
   ended : i ≡ length (tenants n ids p₀)
   ended = omega (arith, s .most, s .filled .count)

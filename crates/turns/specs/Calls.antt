@@ -28,11 +28,13 @@ use Rattle.turns.specs.declared.Answer.{Answer}
 use Rattle.turns.specs.declared.Core.{Core}
 use Rattle.turns.specs.declared.Presence.{Presence}
 use Rattle.turns.specs.declared.Presence.the-variants.{OnCard, Absent}
+use Rattle.turns.specs.declared.Boundary.{Boundary}
+use Rattle.turns.specs.declared.Boundary.the-variants.{Unset as NoBoundary, At as NextAt}
 use Rattle.turns.specs.declared.Vcpu.{Vcpu}
 use Rattle.turns.specs.Written.{written, noTenant, card, coreOf}
 
 abbrev pub described : Description → Terms
-described d = record { tunnel = d .tunnel .0; period = d .period .0; capacity = d .capacity .0; priority = d .priority }
+described d = record { tunnel = d .tunnel .0; period = d .period .0; capacity = d .capacity .0; priority = d .priority; kind = d .kind }
 
 abbrev pub asked : Change → Asked
 asked (Admit d) = admit (described d)
@@ -91,3 +93,12 @@ turned c now change = answerOf (turn (card c) (callOf now change))
 abbrev pub looked : Option Tenant → Vcpu
 looked none = written noTenant
 looked (some v) = written v
+
+-- the next boundary that a look tells, and that of the VCPU found; none of a sporadic one, and where there is none
+abbrev pub paperBoundary : Boundary → Option ℕ
+paperBoundary NoBoundary = none
+paperBoundary (NextAt m) = some (m .0)
+
+abbrev pub boundaryOf : Option Tenant → Option ℕ
+boundaryOf none = none
+boundaryOf (some v) = v .boundary

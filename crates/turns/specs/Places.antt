@@ -39,7 +39,7 @@ holderOf ids at = cond (ltb at idle) (Held (getD ids at (tunnel 0))) Idle
 
 -- what urgency looks at; the other terms do not matter
 abbrev pub urgency : ℕ → ℕ → Terms
-urgency priority t = record { tunnel = t; period = 0; capacity = 0; priority = priority }
+urgency priority t = record { tunnel = t; period = 0; capacity = 0; priority = priority; kind = 0 }
 
 -- the first of the first `n` places that the newcomer is more urgent than, or `n`
 abbrev pub spotIn : Terms → ℕ → List Vcpu → List Tunnel → ℕ

@@ -50,7 +50,7 @@ pub record Accepted (c : Core) (now : Moment) (change : Change) (a : Answer) : T
   pub at-now : card (a .core) .last ≡ now .0
   -- what steps 1 and 2, and step 3, mean; what steps 4 and 5 mean is in Meaning
   pub budgets : Budgets (card c) (callOf now change) (card (a .core) .vcpus)
-  pub marks : Marks (card c .vcpus) (asked change) (card (a .core) .vcpus)
+  pub marks : Marks (card c .vcpus) (now .0) (asked change) (card (a .core) .vcpus)
 
 -- the answer `a` that the code gives to a call on the core `c`
 pub record Next (c : Core) (now : Moment) (change : Change) (a : Answer) : Type 0 where

@@ -1,14 +1,16 @@
 -- What the parts of a call do to the written form, each as its code does it. Private parts promise these; that they are the
 -- rules' steps on what the form shows is proved in proofs/. Assumes nothing.
-use Prim.Native.Nat.{ℕ, suc, _+_, _-_, _≤_, _<_, min}
+use Prim.Native.Nat.{ℕ, suc, _+_, _-_, _%_, _≤_, _<_, min}
 use mathlib.Core.Path.{_≡_}
-use mathlib.Core.Bool.{Bool, cond, _&&_}
+use mathlib.Core.Bool.{Bool, true, false, cond, _&&_}
 use mathlib.Core.List.{List, [], _∷_}
 use lib.Dec.{ltb, eqb}
 use lib.ListN.{length, getD, set}
 use Rattle.units.specs.Units.{moment, amount, tunnel, later}
 use Rattle.units.specs.declared.Moment.{Moment}
 use Rattle.units.specs.declared.Amount.{Amount}
+use Rattle.turns.specs.declared.Kind.{Kind}
+use Rattle.turns.specs.declared.Kind.the-variants.{Sporadic, Deferrable, Polling}
 use Rattle.turns.specs.declared.Vcpu.{Vcpu}
 use Rattle.turns.specs.declared.Pick.{Pick}
 use Rattle.rules.specs.Limits.{mostPending}
@@ -16,7 +18,19 @@ use Rattle.rules.specs.Lists.{sum}
 use Rattle.rules.specs.Vcpu.{Vcpu as Tenant}
 use Rattle.turns.specs.Written.{never, idle, written, shown}
 
--- the queue's arrays, the count, the usable ticks, the end of use, or the mark, anew
+-- ticks come back by a queue, or at boundaries
+abbrev pub hasQueue : Kind → Bool
+hasQueue Sporadic = true
+hasQueue Deferrable = false
+hasQueue Polling = false
+
+-- what is left of the ticks of one that is runnable, or not
+abbrev pub leftOf : Kind → Bool → Amount → Amount
+leftOf Sporadic runnable ticks = ticks
+leftOf Deferrable runnable ticks = ticks
+leftOf Polling runnable ticks = cond runnable ticks (amount 0)
+
+-- the queue's arrays and the count, the end of use, or the usable ticks with the times to come and the mark, anew
 abbrev pub queueAs : Vcpu → List Moment → List Amount → ℕ → Vcpu
 queueAs v ds as′ n =
     record {
@@ -29,35 +43,41 @@ queueAs v ds as′ n =
       priority = v .priority;
       runnable = v .runnable;
       count = n;
+      kind = v .kind;
     }
 
-abbrev pub usedAs : Vcpu → Amount → Moment → Vcpu
-usedAs v u m =
+abbrev pub endedAs : Vcpu → Moment → Vcpu
+endedAs v m =
     record {
       due = v .due;
       ended = m;
       amount = v .amount;
       period = v .period;
       capacity = v .capacity;
-      usable = u;
+      usable = v .usable;
       priority = v .priority;
       runnable = v .runnable;
       count = v .count;
+      kind = v .kind;
     }
 
-abbrev pub runnableAs : Vcpu → Bool → Vcpu
-runnableAs v b =
+abbrev pub usableAs : Vcpu → List Moment → Bool → Amount → Vcpu
+usableAs v ds b u =
     record {
-      due = v .due;
+      due = ds;
       ended = v .ended;
       amount = v .amount;
       period = v .period;
       capacity = v .capacity;
-      usable = v .usable;
+      usable = u;
       priority = v .priority;
       runnable = b;
       count = v .count;
+      kind = v .kind;
     }
+
+abbrev pub runnableAs : Vcpu → Bool → Vcpu
+runnableAs v b = usableAs v (v .due) b (leftOf (v .kind) b (v .usable))
 
 abbrev pub ticksAt : Vcpu → ℕ → ℕ
 ticksAt v k = (getD (v .amount) k (amount 0)) .0
@@ -85,10 +105,18 @@ postedOf v used last =
 abbrev pub elapsedOf : Moment → Moment → Amount
 elapsedOf last now = amount (now .0 - last .0)
 
+-- of one that has a queue: the ticks are posted, and its use ends
+unfoldable pub spentOf : Vcpu → Amount → Moment → Moment → Vcpu
+spentOf v used last now = cond (hasQueue (v .kind)) (endedAs (postedOf v used last) now) v
+
+-- with other usable ticks
+abbrev pub tookOf : Vcpu → Amount → Vcpu
+tookOf v u = usableAs v (v .due) (v .runnable) u
+
 unfoldable pub chargedOf : Vcpu → Moment → Moment → Vcpu
 chargedOf v last now =
     cond (eqb (last .0) (now .0)) v
-    (usedAs (postedOf v (elapsedOf last now) last) (amount (v .usable .0 - (now .0 - last .0))) now)
+    (tookOf (spentOf v (elapsedOf last now) last now) (amount (v .usable .0 - (now .0 - last .0))))
 
 -- what a charge asks: the slots in use fit, and the ticks held are usable ones
 pub record Chargeable (v : Vcpu) (last now : Moment) : Type 0 where
@@ -114,10 +142,25 @@ returnedOne v =
       priority = v .priority;
       runnable = v .runnable;
       count = v .count - 1;
+      kind = v .kind;
     }
 
+-- the next time that something comes
 abbrev pub headOf : Vcpu → ℕ
 headOf v = (getD (v .due) 0 (moment 0)) .0
+
+-- the ticks from `now` to the first of the moments b, b + T, b + 2T .. after it
+abbrev pub untilNext : Moment → Moment → Amount → Amount
+untilNext b now T = amount (T .0 - (now .0 - b .0) % T .0)
+
+unfoldable pub refilledOf : Vcpu → Moment → Vcpu
+refilledOf v now =
+    usableAs v (set (v .due) 0 (later now (untilNext (moment (headOf v)) now (v .period)))) (v .runnable)
+    (leftOf (v .kind) (v .runnable) (v .capacity))
+
+-- a boundary at that time, or the time above all
+abbrev pub boundaryOf : Kind → ℕ → ℕ
+boundaryOf kind at = cond (hasQueue kind) never at
 
 abbrev pub readyOf : Vcpu → Bool
 readyOf v = v .runnable && ltb 0 (v .usable .0)
@@ -125,11 +168,11 @@ readyOf v = v .runnable && ltb 0 (v .usable .0)
 abbrev pub waitsOf : Vcpu → ℕ
 waitsOf v = cond (v .runnable) (headOf v) never
 
--- one place more
+-- one place more; the ready one with its own next boundary
 unfoldable pub pickedOf : Pick → ℕ → Vcpu → Pick
 pickedOf k j v =
     cond (ltb (k .at) idle) k
-    (cond (readyOf v) (record { at = j; usable = v .usable; soon = k .soon })
+    (cond (readyOf v) (record { at = j; usable = v .usable; soon = moment (min (k .soon .0) (boundaryOf (v .kind) (headOf v))) })
     (record { at = idle; usable = k .usable; soon = moment (min (k .soon .0) (waitsOf v)) }))
 
 -- all places from `j` on
@@ -144,9 +187,12 @@ timerFor now k = cond (ltb (k .at) idle) (moment (min (later now (k .usable) .0)
 abbrev pub bare : Vcpu → Tenant
 bare v = shown (tunnel 0) v
 
--- what the return step asks: a written record whose ticks fit, and a moment below the one above all
+-- what the return step asks: a written record whose ticks fit, with a queue or with a period, and a moment that a period does not
+-- carry to the one above all
 pub record Returnable (v : Vcpu) (now : Moment) : Type 0 where
   pub written : v ≡ written (bare v)
   pub few : length (bare v .pending) ≤ mostPending
   pub fits : bare v .usable + sum (λ e. e .amount) (bare v .pending) < 4294967296
-  pub time : now .0 < never
+  pub no-queue : hasQueue (v .kind) ≡ false → bare v .pending ≡ []
+  pub period : 1 ≤ v .period .0
+  pub time : now .0 + v .period .0 < never

@@ -12,8 +12,11 @@ use Rattle.units.specs.declared.Amount.{Amount}
 use Rattle.units.specs.declared.Tunnel.{Tunnel}
 use Rattle.rules.specs.Limits.{mostVcpus, mostPending}
 use Rattle.rules.specs.Vcpu.{Entry, named}
+use Rattle.rules.specs.Timer.{comes}
 use Rattle.rules.specs.Vcpu.{Vcpu as Tenant}
 use Rattle.rules.specs.Card.{Card}
+use Rattle.turns.specs.declared.Kind.{Kind}
+use Rattle.turns.specs.declared.Kind.the-variants.{Sporadic, Deferrable, Polling}
 use Rattle.turns.specs.declared.Vcpu.{Vcpu}
 use Rattle.turns.specs.declared.Core.{Core}
 use Rattle.turns.specs.Laid.{laid}
@@ -30,20 +33,33 @@ nobody = 4294967295
 abbrev pub idle : ℕ
 idle = mostVcpus
 
-abbrev pub dueOf : Entry → Moment
-dueOf e = moment (e .due)
-
 abbrev pub amountOf : Entry → Amount
 amountOf e = amount (e .amount)
 
 abbrev pub tunnelOf : Tenant → Tunnel
 tunnelOf v = tunnel (v .terms .tunnel)
 
--- a tenant's record; its identifier stands beside it
+-- the paper's number for each kind
+abbrev pub paperKind : Kind → ℕ
+paperKind Sporadic = 0
+paperKind Deferrable = 1
+paperKind Polling = 2
+
+-- .., and the kind that has the number; an unknown one is never admitted
+abbrev pub kindAs : ℕ → Kind
+kindAs n = cond (eqb n 0) Sporadic (cond (eqb n 2) Polling Deferrable)
+
+-- the next boundary, which a sporadic VCPU has not
+abbrev pub boundaryAt : Kind → Moment → Option ℕ
+boundaryAt Sporadic m = none
+boundaryAt Deferrable m = some (m .0)
+boundaryAt Polling m = some (m .0)
+
+-- a tenant's record; its identifier stands beside it. The times to come stand in order: its pending returns, or its next boundary
 unfoldable pub written : Tenant → Vcpu
 written v =
     record {
-      due = laid mostPending dueOf (moment never) (v .pending);
+      due = laid mostPending moment (moment never) (comes v);
       ended = moment (v .ended);
       amount = laid mostPending amountOf (amount 0) (v .pending);
       period = amount (v .terms .period);
@@ -52,17 +68,19 @@ written v =
       priority = v .terms .priority;
       runnable = v .runnable;
       count = length (v .pending);
+      kind = kindAs (v .terms .kind);
     }
 
 -- the record of a vacant place
 abbrev pub noTenant : Tenant
 noTenant =
     record {
-      terms = record { tunnel = nobody; period = 0; capacity = 0; priority = 0 };
+      terms = record { tunnel = nobody; period = 0; capacity = 0; priority = 0; kind = 0 };
       runnable = false;
       usable = 0;
       ended = 0;
       pending = [];
+      boundary = none;
     }
 
 -- the first `n` slots, in order
@@ -76,11 +94,18 @@ entries (suc n) (d ∷ ds) (a ∷ as′) = record { due = d .0; amount = a .0 } 
 unfoldable pub shown : Tunnel → Vcpu → Tenant
 shown t v =
     record {
-      terms = record { tunnel = t .0; period = v .period .0; capacity = v .capacity .0; priority = v .priority };
+      terms = record {
+        tunnel = t .0;
+        period = v .period .0;
+        capacity = v .capacity .0;
+        priority = v .priority;
+        kind = paperKind (v .kind);
+      };
       runnable = v .runnable;
       usable = v .usable .0;
       ended = v .ended .0;
       pending = entries (v .count) (v .due) (v .amount);
+      boundary = boundaryAt (v .kind) (getD (v .due) 0 (moment 0));
     }
 
 -- the first `n` places, in order

@@ -1,6 +1,7 @@
-// The reply numbers, rows 1 to 8. `at` is the place of the VCPU that the call names: a refused call does not touch the table.
+// The reply numbers, rows 1 to 8 and 10. `at` is the place of the VCPU that the call names: a refused call does not touch the table.
 use crate::Change;
 use crate::Description;
+use crate::LARGEST_KIND;
 use crate::LARGEST_PERIOD;
 use crate::LARGEST_TIME;
 use crate::LARGEST_TUNNEL;
@@ -49,6 +50,10 @@ fn judged_admit(at: usize, n: usize, d: Description) -> Verdict
     let fits = in_range(period.ticks(), capacity.ticks());
     if !fits {
         return refused(5, 0);
+    }
+    let unknown = LARGEST_KIND < d.kind;
+    if unknown {
+        return refused(10, 0);
     }
     let there = at < NOWHERE;
     if there {

@@ -15,7 +15,7 @@ ghost use Rattle.rules.specs.Card.{onCard};
 ghost use Rattle.rules.specs.Turn.{turn as turnRule};
 ghost use Rattle.turns.specs.Written.{card, coreOf};
 ghost use Rattle.turns.specs.State.{ValidCore};
-ghost use Rattle.turns.specs.Calls.{callOf, paperReply, paperHolder, paperTimer, paperPresence, looked};
+ghost use Rattle.turns.specs.Calls.{callOf, paperReply, paperHolder, paperTimer, paperPresence, paperBoundary, looked, boundaryOf};
 
 // The limits of the card.
 pub const LARGEST_TUNNEL: u32 = 16777215;
@@ -23,6 +23,8 @@ pub const LARGEST_TUNNEL: u32 = 16777215;
 const LARGEST_TIME: u64 = 1000000000000;
 
 const LARGEST_PERIOD: u32 = 1000000;
+
+const LARGEST_KIND: u8 = 2;
 
 const MOST_VCPUS: usize = 32;
 
@@ -39,12 +41,13 @@ const NOWHERE: usize = MOST_VCPUS;
 
 const LAST_PLACE: usize = MOST_VCPUS - 1;
 
-// The whole VCPU description that an admit carries.
+// The whole VCPU description that an admit carries; the kind is the byte that was asked for, since an unknown one is refused.
 pub struct Description {
     pub tunnel: Tunnel,
     pub period: Amount,
     pub capacity: Amount,
     pub priority: u8,
+    pub kind: u8,
 }
 
 // What a call asks for.
@@ -90,7 +93,15 @@ pub struct Answer {
     pub reply: Reply,
 }
 
-// A VCPU on the card: the first `count` slots hold the pending returns in order, the others a time above all and no ticks.
+// What a VCPU on the card is: 0, 1 and 2 of document 02.
+pub enum Kind {
+    Sporadic,
+    Deferrable,
+    Polling,
+}
+
+// A VCPU on the card: the first `count` slots hold the pending returns in order, the others a time above all and no ticks. The first
+// slot of a deferrable or polling VCPU, which has no queue, holds its next boundary: `due[0]` is the next time that something comes.
 // The order of the fields leaves no gap: 120 bytes.
 pub struct Vcpu {
     pub due: [Moment; 8],
@@ -102,6 +113,7 @@ pub struct Vcpu {
     pub priority: u8,
     pub runnable: bool,
     pub count: u8,
+    pub kind: Kind,
 }
 
 // Whether an identifier is on the card.
@@ -110,10 +122,17 @@ pub enum Presence {
     Absent,
 }
 
-// Everything of one VCPU; where there is none, the record of a vacant place.
+// The next boundary, which a sporadic VCPU has not.
+pub enum Boundary {
+    Unset,
+    At(Moment),
+}
+
+// Everything of one VCPU, and its next boundary; where there is none, the record of a vacant place.
 pub struct Look {
     pub presence: Presence,
     pub vcpu: Vcpu,
+    pub boundary: Boundary,
 }
 
 // The card: the time of the last accepted call, who runs, the timer, and how many VCPUs are on it.
@@ -134,7 +153,8 @@ pub struct Core {
     n: usize,
 }
 
-// What a look at the places so far has found: the first ready one, its usable ticks, and the earliest return of those before it.
+// What a look at the places so far has found: the first ready one, its usable ticks, and the next time that something comes to those
+// before it, or that is its own boundary.
 struct Pick {
     at: usize,
     usable: Amount,
@@ -190,7 +210,7 @@ impl Core {
             let v = p[running];
             p[running] = steps::charged(v, last, now);
         }
-        // 2. Return, for every VCPU, runnable or not.
+        // 2. Return or refill, for every VCPU, runnable or not.
         let mut i = 0;
         while i < n {
             let v = p[i];
@@ -203,7 +223,7 @@ impl Core {
         match change {
             Change::Admit(d) => {
                 let k = table::spot(p, ids, n, d);
-                let v = steps::admitted(d);
+                let v = steps::admitted(d, now);
                 let id = d.tunnel;
                 let wider = table::with_vcpu(p, k, v);
                 let longer = table::with_id(ids, k, id);
@@ -311,11 +331,13 @@ impl Core {
         requires { ⌜ ValidCore self ⌝ }
         ensures { λ r. ⌜ paperPresence (r .presence) ≡ onCard (id .0) (card self .vcpus) ⌝ }
         ensures { λ r. ⌜ r .vcpu ≡ looked (findRule (id .0) (card self .vcpus)) ⌝ }
+        ensures { λ r. ⌜ paperBoundary (r .boundary) ≡ boundaryOf (findRule (id .0) (card self .vcpus)) ⌝ }
     {
         let vacant = steps::vacant();
         let absent = Look {
             presence: Presence::Absent,
             vcpu: vacant,
+            boundary: Boundary::Unset,
         };
         let wide = LARGEST_TUNNEL < id.number();
         if wide {
@@ -329,9 +351,11 @@ impl Core {
         }
         let p = self.places;
         let vcpu = p[at];
+        let boundary = steps::boundary_said(vcpu);
         Look {
             presence: Presence::OnCard,
             vcpu,
+            boundary,
         }
     }
 

@@ -1,6 +1,8 @@
 // The steps on one VCPU: charge, return, change, and what choosing and the timer ask of it.
+use crate::Boundary;
 use crate::Description;
 use crate::IDLE;
+use crate::Kind;
 use crate::MOST_PENDING;
 use crate::NEVER;
 use crate::Pick;
@@ -9,19 +11,61 @@ use crate::Vcpu;
 use units::Amount;
 use units::Moment;
 ghost use mathlib.Core.Path.{_≡_};
-ghost use mathlib.Core.Bool.{not};
+ghost use mathlib.Core.Bool.{true, not};
 ghost use Prim.Native.Nat.{ℕ, _+_, _-_, _≤_, _<_, min};
 ghost use lib.Dec.{ltb};
 ghost use Rattle.units.specs.Units.{moment, amount};
 ghost use Rattle.rules.specs.Limits.{mostPending};
 ghost use Rattle.rules.specs.Return.{returned as returnedRule};
 ghost use Rattle.rules.specs.Vcpu.{admitted as admittedRule};
-ghost use Rattle.turns.specs.Written.{never, written, noTenant, timerAt};
-ghost use Rattle.turns.specs.Calls.{described, timerSaid};
-ghost use Rattle.turns.specs.Steps.{elapsedOf, ticksAt, joinedOf, foldedOf, appendedOf, joinsOf, postedOf, chargedOf, Chargeable};
-ghost use Rattle.turns.specs.Steps.{nextOf, returnedOne, headOf, runnableAs, readyOf, waitsOf, pickedOf, timerFor, bare, Returnable};
+ghost use Rattle.turns.specs.Written.{never, written, noTenant, timerAt, kindAs, boundaryAt};
+ghost use Rattle.turns.specs.Calls.{described, timerSaid, paperBoundary};
+ghost use Rattle.turns.specs.Steps.{hasQueue, leftOf};
+ghost use Rattle.turns.specs.Steps.{elapsedOf, ticksAt, joinedOf, foldedOf, appendedOf, joinsOf, postedOf, spentOf, chargedOf};
+ghost use Rattle.turns.specs.Steps.{Chargeable, nextOf, returnedOne, headOf, untilNext, refilledOf, boundaryOf, runnableAs, readyOf};
+ghost use Rattle.turns.specs.Steps.{waitsOf, pickedOf, timerFor, bare, Returnable};
 
-// The ticks from `last` to `now`: the only place where two moments become an amount.
+// The kind of a VCPU on the card, from the byte asked for. An unknown one is refused before.
+fn kind_of(kind: u8) -> Kind
+    ensures { λ r. ⌜ r ≡ kindAs kind ⌝ }
+{
+    let sporadic = kind == 0;
+    if sporadic {
+        return Kind::Sporadic;
+    }
+    let polling = kind == 2;
+    if polling {
+        return Kind::Polling;
+    }
+    Kind::Deferrable
+}
+
+// Ticks of a sporadic VCPU come back by its queue, those of the others at their boundaries.
+fn has_queue(kind: Kind) -> bool
+    ensures { λ r. ⌜ r ≡ hasQueue kind ⌝ }
+{
+    match kind {
+        Kind::Sporadic => true,
+        Kind::Deferrable => false,
+        Kind::Polling => false,
+    }
+}
+
+// What is left of its ticks: a polling VCPU that is not runnable has none.
+fn left(kind: Kind, runnable: bool, ticks: Amount) -> Amount
+    ensures { λ r. ⌜ r ≡ leftOf kind runnable ticks ⌝ }
+{
+    if runnable {
+        return ticks;
+    }
+    match kind {
+        Kind::Sporadic => ticks,
+        Kind::Deferrable => ticks,
+        Kind::Polling => Amount::new(0),
+    }
+}
+
+// The ticks from `last` to `now`. Here and in `until_next` alone two moments become an amount.
 fn elapsed(last: Moment, now: Moment) -> Amount
     requires { ⌜ last .0 ≤ now .0 ⌝ }
     requires { ⌜ now .0 - last .0 < 4294967296 ⌝ }
@@ -108,6 +152,22 @@ fn posted(v: Vcpu, used: Amount, last: Moment) -> Vcpu
     appended(v, used, due)
 }
 
+// Of a sporadic VCPU the ticks used become a pending return, and its use ends at `now`.
+fn spent(v: Vcpu, used: Amount, last: Moment, now: Moment) -> Vcpu
+    requires { ⌜ v .count ≤ mostPending ⌝ }
+    requires { ⌜ ((k : ℕ) → ticksAt v k + used .0 < 4294967296) ⌝ }
+    ensures { λ r. ⌜ r ≡ spentOf v used last now ⌝ }
+{
+    let kind = v.kind;
+    let queue = has_queue(kind);
+    if !queue {
+        return v;
+    }
+    let mut w = posted(v, used, last);
+    w.ended = now;
+    w
+}
+
 pub(crate) fn charged(v: Vcpu, last: Moment, now: Moment) -> Vcpu
     requires { ⌜ Chargeable v last now ⌝ }
     ensures { λ r. ⌜ r ≡ chargedOf v last now ⌝ }
@@ -117,10 +177,9 @@ pub(crate) fn charged(v: Vcpu, last: Moment, now: Moment) -> Vcpu
         return v;
     }
     let used = elapsed(last, now);
-    let mut w = posted(v, used, last);
-    let left = less(v.usable, used);
-    w.usable = left;
-    w.ended = now;
+    let mut w = spent(v, used, last, now);
+    let usable = less(v.usable, used);
+    w.usable = usable;
     w
 }
 
@@ -155,7 +214,7 @@ fn returned_one(v: Vcpu) -> Vcpu
     w
 }
 
-// The time of the front entry, or a time above all.
+// The next time that something comes to it, a return or a boundary, or a time above all.
 fn head(v: Vcpu) -> Moment
     ensures { λ r. ⌜ r ≡ moment (headOf v) ⌝ }
 {
@@ -168,8 +227,10 @@ pub(crate) fn due_by(v: Vcpu, now: Moment) -> bool
     !now.before(head(v))
 }
 
-pub(crate) fn returned(v: Vcpu, now: Moment) -> Vcpu
+// The entries that are due leave the front of the queue.
+fn brought_in(v: Vcpu, now: Moment) -> Vcpu
     requires { ⌜ Returnable v now ⌝ }
+    requires { ⌜ hasQueue (v .kind) ≡ true ⌝ }
     ensures { λ r. ⌜ r ≡ written (returnedRule (now .0) (bare v)) ⌝ }
 {
     let mut w = v;
@@ -179,11 +240,54 @@ pub(crate) fn returned(v: Vcpu, now: Moment) -> Vcpu
     w
 }
 
+// The ticks from `now` to the first of the moments `boundary`, `boundary` + `period`, .. after it: a call may pass any number of them.
+fn until_next(boundary: Moment, now: Moment, period: Amount) -> Amount
+    requires { ⌜ boundary .0 ≤ now .0 ⌝ }
+    requires { ⌜ 1 ≤ period .0 ⌝ }
+    ensures { λ r. ⌜ r ≡ untilNext boundary now period ⌝ }
+{
+    let whole = period.ticks();
+    let past = (now.ticks() - boundary.ticks()) % (whole as u64);
+    Amount::new(whole - past as u32)
+}
+
+// Refilled to C, whatever was left, but for a polling VCPU that is not runnable; the next boundary is the first one after `now`.
+fn refilled(v: Vcpu, now: Moment) -> Vcpu
+    requires { ⌜ headOf v ≤ now .0 ⌝ }
+    requires { ⌜ 1 ≤ v .period .0 ⌝ }
+    ensures { λ r. ⌜ r ≡ refilledOf v now ⌝ }
+{
+    let rest = until_next(head(v), now, v.period);
+    let next = now.plus(rest);
+    let kind = v.kind;
+    let usable = left(kind, v.runnable, v.capacity);
+    let mut w = v;
+    w.due[0] = next;
+    w.usable = usable;
+    w
+}
+
+// Where something is due: the returns, or a refill.
+pub(crate) fn returned(v: Vcpu, now: Moment) -> Vcpu
+    requires { ⌜ Returnable v now ⌝ }
+    requires { ⌜ headOf v ≤ now .0 ⌝ }
+    ensures { λ r. ⌜ r ≡ written (returnedRule (now .0) (bare v)) ⌝ }
+{
+    let kind = v.kind;
+    if has_queue(kind) {
+        return brought_in(v, now);
+    }
+    refilled(v, now)
+}
+
 pub(crate) fn runnable_as(v: Vcpu, runnable: bool) -> Vcpu
     ensures { λ r. ⌜ r ≡ runnableAs v runnable ⌝ }
 {
+    let kind = v.kind;
+    let usable = left(kind, runnable, v.usable);
     let mut w = v;
     w.runnable = runnable;
+    w.usable = usable;
     w
 }
 
@@ -202,21 +306,47 @@ pub(crate) fn vacant() -> Vcpu
         priority: 0,
         runnable: false,
         count: 0,
+        kind: Kind::Sporadic,
     }
 }
 
-// A vacant place with the newcomer's terms, and C usable.
-pub(crate) fn admitted(d: Description) -> Vcpu
-    ensures { λ r. ⌜ r ≡ written (admittedRule (described d)) ⌝ }
+// The boundary at `at`, which a sporadic VCPU has not.
+fn boundary(kind: Kind, at: Moment) -> Moment
+    ensures { λ r. ⌜ r ≡ moment (boundaryOf kind (at .0)) ⌝ }
 {
-    let mut v = vacant();
+    if has_queue(kind) {
+        return Moment::new(NEVER);
+    }
+    at
+}
+
+// A vacant place with the newcomer's terms and first boundary, and C usable, but for a polling one.
+pub(crate) fn admitted(d: Description, now: Moment) -> Vcpu
+    requires { ⌜ now .0 + d .period .0 ≤ never ⌝ }
+    ensures { λ r. ⌜ r ≡ written (admittedRule (now .0) (described d)) ⌝ }
+{
+    let blank = vacant();
     let period = d.period;
     let capacity = d.capacity;
-    v.period = period;
-    v.capacity = capacity;
-    v.usable = capacity;
-    v.priority = d.priority;
-    v
+    let kind = kind_of(d.kind);
+    let first = boundary(kind, now.plus(period));
+    let usable = left(kind, false, capacity);
+    let mut due = blank.due;
+    due[0] = first;
+    let ended = blank.ended;
+    let amount = blank.amount;
+    Vcpu {
+        due,
+        ended,
+        amount,
+        period,
+        capacity,
+        usable,
+        priority: d.priority,
+        runnable: false,
+        count: 0,
+        kind,
+    }
 }
 
 fn ready(v: Vcpu) -> bool
@@ -226,7 +356,7 @@ fn ready(v: Vcpu) -> bool
     v.runnable && 0 < ticks
 }
 
-// The earliest return that a runnable VCPU waits for.
+// The next time that something comes to a runnable VCPU.
 fn waits(v: Vcpu) -> Moment
     ensures { λ r. ⌜ r ≡ moment (waitsOf v) ⌝ }
 {
@@ -245,7 +375,7 @@ fn sooner(a: Moment, b: Moment) -> Moment
     a
 }
 
-// One place more, in the order of urgency: the first ready one stays.
+// One place more, in the order of urgency: the first ready one stays. It is asked for its own next boundary, not for its returns.
 pub(crate) fn picked(pick: Pick, j: usize, v: Vcpu) -> Pick
     ensures { λ r. ⌜ r ≡ pickedOf pick j v ⌝ }
 {
@@ -255,10 +385,13 @@ pub(crate) fn picked(pick: Pick, j: usize, v: Vcpu) -> Pick
     let soon = pick.soon;
     let usable = v.usable;
     if ready(v) {
+        let kind = v.kind;
+        let own = boundary(kind, head(v));
+        let next = sooner(soon, own);
         return Pick {
             at: j,
             usable,
-            soon,
+            soon: next,
         };
     }
     let none = pick.usable;
@@ -287,4 +420,15 @@ pub(crate) fn timer_said(timer: Moment) -> Timer
         return Timer::Unset;
     }
     Timer::At(timer)
+}
+
+// The next boundary, as a look tells it.
+pub(crate) fn boundary_said(v: Vcpu) -> Boundary
+    ensures { λ r. ⌜ paperBoundary r ≡ boundaryAt (v .kind) (moment (headOf v)) ⌝ }
+{
+    let kind = v.kind;
+    if has_queue(kind) {
+        return Boundary::Unset;
+    }
+    Boundary::At(head(v))
 }

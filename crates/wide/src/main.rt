@@ -1,5 +1,5 @@
 // Row 4 on the library: a record's three bytes cannot carry an identifier above 24 bits, so the calls that meet it are made here.
-// It writes the line of each reply; `stdout` has the lines that document 01 gives.
+// It writes the line of each reply; `stdout` has the lines that documents 01 and 02 give.
 use libc::STDOUT_FILENO;
 use lines::LONGEST_LINE;
 use turns::Change;
@@ -35,12 +35,13 @@ fn called(core: Core, now: u64, change: Change) -> Core
     answer.core
 }
 
-fn admit(id: u32, capacity: u32) -> Change {
+fn admit(id: u32, capacity: u32, kind: u8) -> Change {
     Change::Admit(Description {
         tunnel: Tunnel::new(id),
         period: Amount::new(10),
         capacity: Amount::new(capacity),
         priority: 1,
+        kind,
     })
 }
 
@@ -61,28 +62,29 @@ fn refused(core: Core) -> Core
     requires { ⌜ ValidCore core ⌝ }
     ensures { λ r. ⌜ ValidCore r ⌝ }
 {
-    let core = called(core, 0, admit(NEXT, 3));
+    let core = called(core, 0, admit(NEXT, 3, 0));
     let core = called(core, 0, wake(ALIKE));
     let core = called(core, 0, block(ALIKE));
     let core = called(core, 0, remove(ALL_BITS));
     called(core, 0, Change::Tick)
 }
 
-// Rows 1, 2 and 3 come before row 4, and row 5 behind it.
+// Rows 1, 2 and 3 come before row 4, and rows 5 and 10 behind it.
 fn ordered(core: Core) -> Core
     requires { ⌜ ValidCore core ⌝ }
     ensures { λ r. ⌜ ValidCore r ⌝ }
 {
     let core = called(core, 1000000000001, wake(NEXT));
     let core = called(core, 4, wake(NEXT));
-    let core = called(core, 0, admit(NEXT, 0));
+    let core = called(core, 0, admit(NEXT, 0, 0));
+    let core = called(core, 0, admit(NEXT, 3, 3));
     let core = called(core, 2, Change::Tick);
     let core = called(core, 1, remove(NEXT));
     called(core, 3, Change::Tick)
 }
 
 fn main() {
-    let core = called(Core::empty(), 0, admit(LARGEST_TUNNEL, 3));
+    let core = called(Core::empty(), 0, admit(LARGEST_TUNNEL, 3, 0));
     let core = called(core, 0, wake(LARGEST_TUNNEL));
     let core = refused(core);
     ordered(core);

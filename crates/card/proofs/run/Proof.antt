@@ -41,7 +41,7 @@ lent c = c .before .before .before .before
 abbrev round : tie.After-out2 Inv-loop μ-loop → tie.After-one-round Inv-loop μ-loop
 round c = c .before .before
 
-held-small : (c : tie.At-loop Inv-loop μ-loop) → c .loop .r .held < 23
+held-small : (c : tie.At-loop Inv-loop μ-loop) → c .loop .r .held < 24
 held-small c =
     let l = c .loop in
     let u = l .inv .3 in

@@ -28,14 +28,17 @@ new-requires-3 c κs = search needs
 shared-slice-read-t9 : tie.Need-shared-slice-read-t9
 shared-slice-read-t9 c = search needs
 
+shared-slice-read-t11 : tie.Need-shared-slice-read-t11
+shared-slice-read-t11 c = search needs
+
 returns : tie.Need-returns
 returns c =
-    let id = c .before .before .before .before .before in
-    let period = c .before .before .before in
-    let capacity = c .before in
+    let capacity = c .before .before in
+    let period = capacity .before .before in
+    let id = period .before .before in
     same-terms _ (ap (λ (t : Tunnel). t .0) (id .new .ensures) ∙ id .before .identifier .ensures)
     (ap (λ (a : Amount). a .0) (period .new2 .ensures) ∙ period .before .period .ensures)
-    (ap (λ (a : Amount). a .0) (capacity .new3 .ensures) ∙ capacity .before .capacity .ensures) refl
+    (ap (λ (a : Amount). a .0) (capacity .new3 .ensures) ∙ capacity .before .capacity .ensures) refl refl
 
 pub description-spec : {M : Type 1} → statement M
 description-spec =
@@ -48,4 +51,5 @@ description-spec =
     capacity-requires
     new-requires-3
     shared-slice-read-t9
+    shared-slice-read-t11
     returns)

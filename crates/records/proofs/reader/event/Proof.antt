@@ -52,7 +52,7 @@ new-requires : tie.Need-new-requires
 new-requires c κs = search needs
 
 description-requires : tie.Need-description-requires
-description-requires c κs = omega (arith, reach (c .before), ap payload (c .match .keys1) ∙ layout-known 1 20 admit-has .1)
+description-requires c κs = omega (arith, reach (c .before), ap payload (c .match .keys1) ∙ layout-known 1 21 admit-has .1)
 
 identifier-requires : tie.Need-identifier-requires
 identifier-requires c κs = named (c .before) (omega (arith, c .match .keys2)) (omega (arith, c .match .keys2))

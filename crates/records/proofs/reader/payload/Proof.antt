@@ -8,7 +8,7 @@ use Rattle.records.proofs.reader.payload.Statement.{statement}
 use Rattle.records.proofs.reader.payload.Tie as tie
 
 returns : tie.Need-returns
-returns c = sym (ap payloadOf (c .match .keys1) ∙ layout-is 1 20 admit-has)
+returns c = sym (ap payloadOf (c .match .keys1) ∙ layout-is 1 21 admit-has)
 
 returns-2 : tie.Need-returns-2
 returns-2 c = sym (ap payloadOf (c .match .keys2) ∙ layout-is 5 8 tick-has)

@@ -27,7 +27,7 @@ returns c =
     let id = c .before .before in
     let front = id .before .before .before .before .before in
     let a = front .before .before .before .args in
-    laid-field (a .out .now) (front .put-head .last .0) (id .put .last .0) 11 (head (a .tag) 11 (a .time .0)) 3
+    laid-field (a .out .now) (front .put-head .last .0) (id .put .last .0) 11 (head (a .tag) (a .payload) (a .time .0)) 3
     (id .before .number .result) (a .id .0) (id .before .number .ensures) refl (front .put-head .ensures) (id .put .ensures)
 
 pub put-naming-spec : {M : Type 1} → statement M

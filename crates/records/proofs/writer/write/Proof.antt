@@ -55,7 +55,7 @@ put-admit-requires : tie.Need-put-admit-requires
 unfolding sizeOf payload payloadOf
 put-admit-requires c κs =
     let case = c .before .before in
-    let z : sizeOf (its-event (case .before .before)) ≡ 23 = rw (case .event .given .1) in
+    let z : sizeOf (its-event (case .before .before)) ≡ 24 = rw (case .event .given .1) in
     omega (arith, has-room (case .before .before))
 
 enum-known-event-2 : tie.Need-enum-known-event-2

@@ -12,6 +12,7 @@ use Rattle.turns.specs.declared.Core.{Core}
 use Rattle.turns.specs.Places.{nowhere, seek}
 use Rattle.turns.proofs.Invariant.{SoundCore}
 use Rattle.turns.proofs.Made.{sound}
+use Rattle.turns.proofs.Written.{boundaryIn}
 use Rattle.turns.proofs.Questions.{unread, wide-sought, there-sought, absent-sought}
 use Rattle.turns.proofs.Core.look.Statement.{statement}
 use Rattle.turns.proofs.Core.look.Tie as tie
@@ -49,7 +50,7 @@ returns c =
     let n : tie.After-number = c .before in
     let h : largestTunnel < id n = ltb-true largestTunnel (id n) (wide n _ (c .if1 .taken)) in
     let s = wide-sought (core n) (valid n) (id n) h in
-    (s .present, n .before .vacant .ensures ∙ s .is)
+    (s .present, (n .before .vacant .ensures ∙ s .is, s .boundary))
 
 find-requires : tie.Need-find-requires
 find-requires c κs = search needs
@@ -59,7 +60,7 @@ returns-2 c =
     let n : tie.After-number = numbered (c .before) in
     let h : nowhere ≤ seek (id n) (core n .ids) = leb-true nowhere _ (ap (leb nowhere) (sym (c .before .find .ensures)) ∙ c .if2 .taken) in
     let s = absent-sought (core n) (valid n) (id n) (narrow (c .before)) h in
-    (s .present, n .before .vacant .ensures ∙ s .is)
+    (s .present, (n .before .vacant .ensures ∙ s .is, s .boundary))
 
 mul-vcpu : tie.Need-mul-vcpu
 mul-vcpu c = search needs
@@ -67,14 +68,19 @@ mul-vcpu c = search needs
 array-copy-out-vcpu : tie.Need-array-copy-out-vcpu
 array-copy-out-vcpu c = search needs
 
+boundary-said-requires : tie.Need-boundary-said-requires
+boundary-said-requires c κs = search needs
+
 returns-3 : tie.Need-returns-3
 returns-3 c =
-    let f : tie.After-find = c .before .before .before in
+    let f : tie.After-find = c .before .before .before .before in
     let n : tie.After-number = numbered f in
     let h : seek (id n) (core n .ids) < nowhere =
-    leb-false nowhere _ (ap (leb nowhere) (sym (f .find .ensures)) ∙ c .before .before .if2 .left) in
+    leb-false nowhere _ (ap (leb nowhere) (sym (f .find .ensures)) ∙ c .before .before .before .if2 .left) in
     let s = there-sought (core n) (valid n) (id n) (narrow f) unread h in
-    (s .present, ap (λ (i : ℕ). getD (core n .places) i unread) (f .find .ensures) ∙ s .is)
+    let at : getD (core n .places) (f .find .result) unread ≡ getD (core n .places) (seek (id n) (core n .ids)) unread =
+    ap (λ (i : ℕ). getD (core n .places) i unread) (f .find .ensures) in
+    (s .present, (at ∙ s .is, c .boundary-said .ensures ∙ ap boundaryIn at ∙ s .boundary))
 
 pub look-spec : {M : Type 1} → statement M
 look-spec =
@@ -87,4 +93,5 @@ look-spec =
     returns-2
     mul-vcpu
     array-copy-out-vcpu
+    boundary-said-requires
     returns-3)

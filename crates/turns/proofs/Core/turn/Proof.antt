@@ -8,6 +8,7 @@ use mathlib.Core.Option.{none}
 use native.Mathlib.Omega.{arith}
 use lib.ListN.{length, set, take, drop}
 use borrow.Author.Needs.{needs}
+use borrow.Author.Tests.{ltb-false, not-true}
 use Rattle.units.specs.Units.{amount}
 use Rattle.units.specs.declared.Amount.{Amount}
 use Rattle.units.specs.declared.Moment.{Moment}
@@ -163,7 +164,7 @@ module _ (c : Judged) where
   vs₂ = afterReturn (card core) (now .0)
 
   abbrev vs₃ : List Tenant
-  vs₃ = changeRule (asked change) vs₂
+  vs₃ = changeRule (now .0) (asked change) vs₂
 
 -- an accepted call
 module _ (c : Accepted) where
@@ -212,9 +213,9 @@ module _ (c : Returned) where
         (changeable (card (core j₂)) (now j₂ .0) (listed j₂) table after-return (change j₂) (at j₂) (named j₂)
         (meets (accepted (charged c)) .asked-for))
 
-    left-by : FilledBy (changedTable asks (at j₂) unread table) (vs₃ j₂)
+    left-by : FilledBy (changedTable (now j₂ .0) asks (at j₂) unread table) (vs₃ j₂)
     left-by =
-        subst (λ (x : Change). FilledBy (changedTable x (at j₂) unread table) (vs₃ j₂)) e
+        subst (λ (x : Change). FilledBy (changedTable (now j₂ .0) x (at j₂) unread table) (vs₃ j₂)) e
         (change-filled (card (core j₂)) (now j₂ .0) (listed j₂) table after-return (change j₂) (at j₂) unread (named j₂)
         (meets (accepted (charged c)) .asked-for))
 
@@ -230,12 +231,13 @@ module _ (c : Changed) where
   table₂ = table (returned c)
 
   -- an arm that leaves the table as its change has it
-  arm : (asks : Change) → change j₃ ≡ asks → c .match2 .p ≡ changedTable asks (at j₃) unread table₂ .places
-      → c .match2 .ids ≡ changedTable asks (at j₃) unread table₂ .ids → c .match2 .n ≡ changedTable asks (at j₃) unread table₂ .n
-      → Filled (c .match2 .p) (c .match2 .ids) (c .match2 .n) (vs₃ j₃)
+  abbrev left : Change → Table
+  left asks = changedTable (now j₃ .0) asks (at j₃) unread table₂
+
+  arm : (asks : Change) → change j₃ ≡ asks → c .match2 .p ≡ left asks .places → c .match2 .ids ≡ left asks .ids
+      → c .match2 .n ≡ left asks .n → Filled (c .match2 .p) (c .match2 .ids) (c .match2 .n) (vs₃ j₃)
   arm asks e p ids n =
-      filled-as (c .match2 .p) (c .match2 .ids) (c .match2 .n) (changedTable asks (at j₃) unread table₂) (vs₃ j₃) p ids n
-      (left-by (returned c) asks e)
+      filled-as (c .match2 .p) (c .match2 .ids) (c .match2 .n) (left asks) (vs₃ j₃) p ids n (left-by (returned c) asks e)
 
   after-change : Filled (c .match2 .p) (c .match2 .ids) (c .match2 .n) (vs₃ j₃)
   after-change =
@@ -243,7 +245,7 @@ module _ (c : Changed) where
       (λ w. arm _ (w .1 .given .1)
       (w .10 ∙ w .6 .ensures
       ∙ ap (λ (v : Vcpu). inserted (w .3 .result) v (table₂ .places)) (w .4 .ensures)
-      ∙ ap (λ (k : ℕ). inserted k (written (admitted (described (w .1 .given .0 .0)))) (table₂ .places)) (w .3 .ensures))
+      ∙ ap (λ (k : ℕ). inserted k (written (admitted (now j₃ .0) (described (w .1 .given .0 .0)))) (table₂ .places)) (w .3 .ensures))
       (w .8 ∙ w .7 .ensures ∙ ap (λ (k : ℕ). inserted k (w .1 .given .0 .0 .tunnel) (table₂ .ids)) (w .3 .ensures)) (w .9))
       (⊎-elim
       (λ w. arm _ (w .1 .given .1) (w .6 ∙ ap (set (table₂ .places) (at j₃)) (w .3 .ensures)) (w .4) (w .5))
@@ -373,9 +375,11 @@ module _ (c : Sweeps) where
 
 returned-requires : tie.Need-returned-requires Inv-loop μ-loop Inv-loop2 μ-loop2
 returned-requires c κs =
-    let s : Sweeps = c .before in
-    sweep-asks (now (j₁ s)) (core (j₁ s) .ids) (core (j₁ s) .n) (sweep s .before .if1 .p) (sweep s .loop .p) (sweep s .loop .i)
-    (sweep s .loop .inv) (s .before .before .loop-test .taken) unread
+    let s : Sweeps = c .before in (
+      sweep-asks (now (j₁ s)) (core (j₁ s) .ids) (core (j₁ s) .n) (sweep s .before .if1 .p) (sweep s .loop .p) (sweep s .loop .i)
+          (sweep s .loop .inv) (s .before .before .loop-test .taken) unread,
+      ltb-false _ _ (not-true _ (sym (s .due-by .ensures) ∙ c .if2 .taken)),
+    )
 
 mul-p-2 : tie.Need-mul-p-2 Inv-loop μ-loop Inv-loop2 μ-loop2
 mul-p-2 c = search needs
@@ -411,13 +415,19 @@ newcomer c = c .before .before .before .before
 
 spot-small : (c : tie.After-spot Inv-loop μ-loop Inv-loop2 μ-loop2) → c .spot .result ≤ 32
 spot-small c =
-    subst (λ (k : ℕ). k ≤ 32) (sym (c .spot .ensures)) (asked-place (newcomer c) _ (c .before .before .change .given .1))
+    subst (λ (k : ℕ). k ≤ 32) (sym (c .spot .ensures)) (asked-place (newcomer c) _ (c .before .before .change .given .1) .0)
 
 spot-requires : tie.Need-spot-requires Inv-loop μ-loop Inv-loop2 μ-loop2
 spot-requires c κs = few (j₂ (c .before .before .before))
 
 admitted-requires : tie.Need-admitted-requires Inv-loop μ-loop Inv-loop2 μ-loop2
-admitted-requires c κs = search needs
+admitted-requires c κs =
+    let r : Returned = newcomer c in
+    omega (
+      arith,
+      asked-place r _ (c .before .before .change .given .1) .1,
+      meets (accepted (charged r)) .not-above,
+    )
 
 with-vcpu-requires : tie.Need-with-vcpu-requires Inv-loop μ-loop Inv-loop2 μ-loop2
 with-vcpu-requires c κs = spot-small (c .before .before)

@@ -59,14 +59,19 @@ returns-2 c =
 abbrev ranged : tie.Else2 → tie.After-in-range
 ranged c = c .before
 
+fits : (c : tie.Else2)
+    → not (inRange (terms (numbered (ranged c)) .period .0) (terms (numbered (ranged c)) .capacity .0)) ≡ false
+fits c = unfit (ranged c) false (c .if2 .left)
+
+thin : (c : tie.Else2) → ltb largestTunnel (terms (numbered (ranged c)) .tunnel .0) ≡ false
+thin c = narrow (ranged c .before .before .before)
+
 refused-requires-3 : tie.Need-refused-requires-3
 refused-requires-3 c κs = search needs
 
 returns-3 : tie.Need-returns-3
 unfolding judgeAdmit
-returns-3 c =
-    let r : tie.After-in-range = ranged (c .before .before) in
-    rw (narrow (r .before .before .before), unfit r _ (c .before .before .if2 .left), c .before .if3 .taken) (c .refused3 .ensures)
+returns-3 c = let e : tie.Else2 = c .before .before .before in rw (thin e, fits e, c .before .if3 .taken) (c .refused3 .ensures)
 
 refused-requires-4 : tie.Need-refused-requires-4
 refused-requires-4 c κs = search needs
@@ -74,17 +79,23 @@ refused-requires-4 c κs = search needs
 returns-4 : tie.Need-returns-4
 unfolding judgeAdmit
 returns-4 c =
-    let e : tie.Else2 = c .before .before .before in
-    let r : tie.After-in-range = ranged e in
-    rw (narrow (r .before .before .before), unfit r _ (e .if2 .left), c .before .before .if3 .left, c .before .if4 .taken)
-    (c .refused4 .ensures)
+    let e : tie.Else2 = c .before .before .before .before in
+    rw (thin e, fits e, c .before .before .if3 .left, c .before .if4 .taken) (c .refused4 .ensures)
+
+refused-requires-5 : tie.Need-refused-requires-5
+refused-requires-5 c κs = search needs
 
 returns-5 : tie.Need-returns-5
 unfolding judgeAdmit
 returns-5 c =
-    let e : tie.Else2 = c .before .before in
-    let r : tie.After-in-range = ranged e in
-    rw (narrow (r .before .before .before), unfit r _ (e .if2 .left), c .before .if3 .left, c .if4 .left)
+    let e : tie.Else2 = c .before .before .before .before .before in
+    rw (thin e, fits e, c .before .before .before .if3 .left, c .before .before .if4 .left, c .before .if5 .taken) (c .refused5 .ensures)
+
+returns-6 : tie.Need-returns-6
+unfolding judgeAdmit
+returns-6 c =
+    let e : tie.Else2 = c .before .before .before .before in
+    rw (thin e, fits e, c .before .before .if3 .left, c .before .if4 .left, c .if5 .left)
 
 pub judged-admit-spec : {M : Type 1} → statement M
 judged-admit-spec =
@@ -102,4 +113,6 @@ judged-admit-spec =
     returns-3
     refused-requires-4
     returns-4
-    returns-5)
+    refused-requires-5
+    returns-5
+    returns-6)

@@ -1,4 +1,4 @@
--- `turns::steps::charged` meets its contract: nothing where no time passed, else the posted record with fewer usable ticks.
+-- `turns::steps::charged` meets its contract: nothing where no time passed, else the record spent, with fewer usable ticks.
 -- Assumes nothing.
 use Rattle.units.specs.declared.Amount.{Amount}
 use Rattle.turns.specs.Steps.{chargedOf}
@@ -19,8 +19,8 @@ returns c = rw (sym (c .before .same .ensures) ∙ c .if1 .taken)
 elapsed-requires : tie.Need-elapsed-requires
 elapsed-requires c κs = search needs
 
-posted-requires : tie.Need-posted-requires
-posted-requires c κs = let e : c .elapsed .result .0
+spent-requires : tie.Need-spent-requires
+spent-requires c κs = let e : c .elapsed .result .0
     ≡ c .before .before .before .args .now .0 - c .before .before .before .args .last .0 = ap (λ
     (a : Amount). a .0) (c .elapsed .ensures) in (
       c .before .before .before .pre .few,
@@ -40,11 +40,11 @@ returns-2 c = rw (
   sym (c .before .before .before .before .same .ensures)
       ∙ c .before .before .before .if1 .left,
   c .less .ensures,
-  c .before .posted .ensures,
+  c .before .spent .ensures,
   c .before .before .elapsed .ensures,
 )
 
 pub charged-spec : {M : Type 1} → statement M
 charged-spec =
     tie.close
-    (tie.spec same-requires returns elapsed-requires posted-requires less-requires returns-2)
+    (tie.spec same-requires returns elapsed-requires spent-requires less-requires returns-2)

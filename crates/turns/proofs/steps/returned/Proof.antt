@@ -1,65 +1,28 @@
--- `turns::steps::returned` meets its contract: the loop takes the front entry while it is due; its invariant keeps the end that the
--- rule gives, and the count falls.
+-- `turns::steps::returned` meets its contract: the due entries of a queue, or the refill of one that has none.
 -- Assumes nothing.
-use Rattle.turns.specs.declared.Vcpu.{Vcpu}
-use Rattle.turns.proofs.Return.{one-asks, one-again, one-ends}
-use Rattle.rules.specs.Return.{returned as returnedRule}
-use Rattle.turns.specs.Written.{written}
-use Rattle.turns.specs.Steps.{Returnable, bare}
+use mathlib.Core.Path.{sym, _∙_}
 use borrow.Author.Needs.{needs}
-use Prim.Native.Nat.{_<_}
-use mathlib.Core.Path.{_≡_, refl, ap, sym, _∙_, subst}
+use Rattle.turns.proofs.Refill.{refills-so}
 use Rattle.turns.proofs.steps.returned.Statement.{statement}
 use Rattle.turns.proofs.steps.returned.Tie as tie
 
-abbrev Inv-loop : tie.InvT-loop
-Inv-loop now w₀ w = Returnable w now × (returnedRule (now .0) (bare w) ≡ returnedRule (now .0) (bare w₀))
+has-queue-requires : tie.Need-has-queue-requires
+has-queue-requires c κs = search needs
 
-abbrev μ-loop : tie.MeasureT-loop
-μ-loop now w₀ w = w .count
+brought-in-requires : tie.Need-brought-in-requires
+brought-in-requires c κs = (c .before .before .pre .0, sym (c .before .has-queue .ensures) ∙ c .if1 .taken)
 
-loop-holds : tie.Need-loop-holds Inv-loop μ-loop
-loop-holds c = (c .pre, refl)
+returns : tie.Need-returns
+returns c = c .brought-in .ensures
 
-due-by-requires : tie.Need-due-by-requires Inv-loop μ-loop
-due-by-requires c κs = search needs
+refilled-requires : tie.Need-refilled-requires
+refilled-requires c κs = (c .before .before .pre .1, c .before .before .pre .0 .period)
 
-returned-one-requires : tie.Need-returned-one-requires Inv-loop μ-loop
-returned-one-requires c κs = one-asks (c .before .before .loop .w) (c .before .before .before .args .now)
-    (c .before .before .loop .inv .0) (sym
-    (c .before .due-by .ensures) ∙ c .if1 .taken)
-
-loop-less : tie.Need-loop-less Inv-loop μ-loop
-loop-less c = subst (λ (x : Vcpu). x .count < c .before .before .before .loop .w .count) (sym (c .returned-one .ensures)) ((one-again
-    (c .before .before .before .loop .w) (c .before .before .before .before .args .now) (c .before .before .before .loop .inv .0) (sym
-    (c .before .before .due-by .ensures) ∙ c .before .if1 .taken)) .less)
-
-loop-again : tie.Need-loop-again Inv-loop μ-loop
-loop-again c = subst (λ (x : Vcpu). Returnable x (c .before .before .before .before .args .now) × (returnedRule
-    (c .before .before .before .before .args .now .0) (bare x) ≡ returnedRule (c .before .before .before .before .args .now .0) (bare
-    (c .before .before .before .before .args .v)))) (sym (c .returned-one .ensures)) (
-      (one-again (c .before .before .before .loop .w)
-          (c .before .before .before .before .args .now) (c .before .before .before .loop .inv .0)
-          (sym (c .before .before .due-by .ensures)
-          ∙ c .before .if1 .taken)) .returnable,
-      (one-again (c .before .before .before .loop .w) (c .before .before .before .before .args .now)
-          (c .before .before .before .loop .inv .0) (sym (c .before .before .due-by .ensures) ∙ c .before .if1 .taken)) .end
-          ∙ c .before .before .before .loop .inv .1,
-    )
-
-returns : tie.Need-returns Inv-loop μ-loop
-returns c = one-ends (c .before .before .loop .w) (c .before .before .before .args .now) (c .before .before .loop .inv .0) (sym
-    (c .before .due-by .ensures) ∙ c .if1 .left) ∙ ap written (c .before .before .loop .inv .1)
+returns-2 : tie.Need-returns-2
+returns-2 c =
+    let s : tie.Start = c .before .before .before in
+    c .refilled .ensures
+    ∙ refills-so (s .args .v) (s .args .now) (s .pre .0) (sym (c .before .before .has-queue .ensures) ∙ c .before .if1 .left) (s .pre .1)
 
 pub returned-spec : {M : Type 1} → statement M
-returned-spec =
-    tie.close
-    (tie.spec
-    Inv-loop
-    μ-loop
-    loop-holds
-    due-by-requires
-    returned-one-requires
-    loop-less
-    loop-again
-    returns)
+returned-spec = tie.close (tie.spec has-queue-requires brought-in-requires returns refilled-requires returns-2)

@@ -1,0 +1,322 @@
+//! One stay as it is seen from outside: the ticks it held, what it may hold by its kind, and
+//! the usable ticks that follow from the ticks held.
+
+use crate::turns::{Description, MOST_PENDING};
+
+/// An unbroken run of ticks; a sporadic one's is cut one period behind its start.
+#[derive(Clone, Copy, PartialEq, Eq, Debug)]
+struct Slice {
+    start: u64,
+    end: u64,
+}
+
+impl Slice {
+    fn within(&self, from: u64, to: u64) -> u64 {
+        self.end.min(to).saturating_sub(self.start.max(from))
+    }
+}
+
+/// What was looked at.
+#[derive(Default)]
+pub struct Counts {
+    /// At the kind's byte.
+    pub kinds: [OfKind; 3],
+    /// Lines at which no more urgent one could have run.
+    pub choices: u64,
+    pub timers: u64,
+    pub ticks: u64,
+    pub folds: u64,
+    pub cuts: u64,
+}
+
+/// What was looked at of one kind.
+#[derive(Default)]
+pub struct OfKind {
+    pub stays: u64,
+    pub windows: u64,
+    /// Windows with more than C, without which the bound of 2C would say nothing.
+    pub above: u64,
+    /// From an admission or a boundary to the next boundary.
+    pub rounds: u64,
+    /// Lines that told usable ticks.
+    pub usable: u64,
+}
+
+#[derive(Clone, Copy, PartialEq)]
+enum Kind {
+    Sporadic,
+    Deferrable,
+    /// Whether the latest boundary found it runnable and no call since has left it otherwise.
+    Polling {
+        served: bool,
+    },
+}
+
+pub struct Stay {
+    pub identifier: u32,
+    pub period: u64,
+    pub capacity: u64,
+    priority: u8,
+    admitted: u64,
+    runnable: bool,
+    kind: Kind,
+    slices: Vec<Slice>,
+    /// From its first fold on the usable ticks do not follow from the ticks held alone.
+    pub folded: bool,
+}
+
+impl Stay {
+    pub fn new(description: &Description, admitted: u64) -> Result<Stay, String> {
+        let kind = match description.kind {
+            0 => Kind::Sporadic,
+            1 => Kind::Deferrable,
+            2 => Kind::Polling { served: false },
+            other => return Err(format!("{} is admitted with the kind {other}", description.identifier)),
+        };
+        Ok(Stay {
+            identifier: description.identifier,
+            period: u64::from(description.period),
+            capacity: u64::from(description.capacity),
+            priority: description.priority,
+            admitted,
+            runnable: false,
+            kind,
+            slices: Vec::new(),
+            folded: false,
+        })
+    }
+
+    pub fn is_sporadic(&self) -> bool {
+        self.kind == Kind::Sporadic
+    }
+
+    /// What is counted of its kind.
+    pub fn of_kind<'a>(&self, counts: &'a mut Counts) -> &'a mut OfKind {
+        let place = match self.kind {
+            Kind::Sporadic => 0,
+            Kind::Deferrable => 1,
+            Kind::Polling { .. } => 2,
+        };
+        &mut counts.kinds[place]
+    }
+
+    fn round(&self, moment: u64) -> u64 {
+        (moment - self.admitted) / self.period
+    }
+
+    fn start_of(&self, round: u64) -> u64 {
+        self.admitted + round * self.period
+    }
+
+    /// A call at `now`, the one before it at `since`: it may pass boundaries.
+    pub fn pass(&mut self, since: u64, now: u64) {
+        let passes = self.round(since) < self.round(now);
+        if let Kind::Polling { served } = &mut self.kind {
+            *served = if passes { self.runnable } else { *served };
+        }
+    }
+
+    /// What the call leaves it.
+    pub fn leave(&mut self, runnable: bool) {
+        self.runnable = runnable;
+        if let Kind::Polling { served } = &mut self.kind {
+            *served &= runnable;
+        }
+    }
+
+    /// Smaller is more urgent.
+    pub fn urgency(&self) -> (u8, u32) {
+        (self.priority, self.identifier)
+    }
+
+    /// Whether it could run, as far as the ticks held say so.
+    pub fn is_able(&self, moment: u64) -> bool {
+        self.runnable && !self.folded && self.usable(moment) > 0
+    }
+
+    /// The stay holds the core from `start` to `end`.
+    pub fn hold(&mut self, start: u64, end: u64, counts: &mut Counts) {
+        counts.ticks += end - start;
+        let mut from = start;
+        while from < end {
+            let to = self.room_of_last(from).min(end);
+            if to > from {
+                self.slices.last_mut().expect("it has room").end = to;
+                from = to;
+                continue;
+            }
+            from = self.begin(from, end, counts);
+        }
+    }
+
+    /// A new slice from `from`, up to `end` or to where it is cut.
+    fn begin(&mut self, from: u64, end: u64, counts: &mut Counts) -> u64 {
+        let mut to = end;
+        if self.is_sporadic() {
+            counts.cuts += u64::from(self.slices.last().is_some_and(|slice| slice.end == from));
+            let folds = self.pending(from).count() >= MOST_PENDING;
+            counts.folds += u64::from(folds && !self.folded);
+            self.folded |= folds;
+            to = end.min(from + self.period);
+        }
+        self.slices.push(Slice { start: from, end: to });
+        to
+    }
+
+    /// Up to where the last slice may grow, if its use goes on at `from`.
+    fn room_of_last(&self, from: u64) -> u64 {
+        match self.slices.last() {
+            Some(slice) if slice.end != from => from,
+            Some(slice) if self.is_sporadic() => slice.start + self.period,
+            Some(_) => u64::MAX,
+            None => from,
+        }
+    }
+
+    fn pending(&self, moment: u64) -> impl Iterator<Item = &Slice> {
+        self.slices.iter().filter(move |slice| slice.start + self.period > moment)
+    }
+
+    pub fn usable(&self, moment: u64) -> u64 {
+        let spent = match self.kind {
+            Kind::Sporadic => self.pending(moment).map(|slice| slice.end - slice.start).sum(),
+            Kind::Polling { served: false } => self.capacity,
+            _ => self.held(self.start_of(self.round(moment)), moment),
+        };
+        self.capacity.saturating_sub(spent)
+    }
+
+    fn held(&self, from: u64, to: u64) -> u64 {
+        self.slices.iter().map(|slice| slice.within(from, to)).sum()
+    }
+
+    pub fn check(&self, counts: &mut Counts) -> Result<(), String> {
+        let counts = self.of_kind(counts);
+        counts.stays += 1;
+        self.check_windows(counts)?;
+        if !self.is_sporadic() {
+            self.check_rounds(counts)?;
+        }
+        Ok(())
+    }
+
+    fn check_held(&self, from: u64, to: u64, most: u64) -> Result<u64, String> {
+        let held = self.held(from, to);
+        if held > most {
+            let who = self.identifier;
+            return Err(format!("{who} holds {held} ticks from {from} to {to}, it may hold {most}"));
+        }
+        Ok(held)
+    }
+
+    /// The fullest window starts with a slice or ends with one.
+    fn check_windows(&self, counts: &mut OfKind) -> Result<(), String> {
+        let most = if self.is_sporadic() { self.capacity } else { 2 * self.capacity };
+        let starts = self.slices.iter().map(|slice| slice.start);
+        let ends = self.slices.iter().map(|slice| slice.end.saturating_sub(self.period));
+        for from in starts.chain(ends) {
+            counts.windows += 1;
+            let held = self.check_held(from, from + self.period, most)?;
+            counts.above += u64::from(held > self.capacity);
+        }
+        Ok(())
+    }
+
+    /// Every round with a tick held in it. The ones within a slice are alike: one is enough.
+    fn check_rounds(&self, counts: &mut OfKind) -> Result<(), String> {
+        for slice in &self.slices {
+            let (first, last) = (self.round(slice.start), self.round(slice.end - 1));
+            let mut rounds = vec![first, last.min(first + 1), last];
+            rounds.dedup();
+            for round in rounds {
+                counts.rounds += 1;
+                self.check_held(self.start_of(round), self.start_of(round + 1), self.capacity)?;
+            }
+        }
+        Ok(())
+    }
+}
+
+#[cfg(test)]
+mod tests {
+    use super::*;
+
+    fn stay(period: u32, capacity: u32, kind: u8) -> Stay {
+        Stay::new(&Description { identifier: 1, period, capacity, priority: 0, kind }, 3).unwrap()
+    }
+
+    #[test]
+    fn slices_are_unbroken_and_cut() {
+        let mut counts = Counts::default();
+        let mut stay = stay(5, 5, 0);
+        stay.hold(10, 12, &mut counts);
+        stay.hold(12, 17, &mut counts);
+        stay.hold(18, 19, &mut counts);
+        let slices = [(10, 15), (15, 17), (18, 19)].map(|(start, end)| Slice { start, end });
+        assert_eq!(stay.slices, slices);
+        assert_eq!((counts.cuts, counts.ticks), (1, 8));
+        assert_eq!(stay.usable(19), 2);
+        assert_eq!(stay.usable(20), 4);
+    }
+
+    #[test]
+    fn a_full_window_is_seen() {
+        let mut stay = stay(10, 4, 0);
+        let mut counts = Counts::default();
+        stay.hold(3, 5, &mut counts);
+        stay.hold(10, 12, &mut counts);
+        assert!(stay.check(&mut counts).is_ok());
+        stay.hold(13, 15, &mut counts);
+        assert!(stay.check(&mut counts).is_ok());
+        stay.hold(19, 20, &mut counts);
+        assert!(stay.check(&mut counts).is_err());
+    }
+
+    /// Boundaries at 13 and 23.
+    #[test]
+    fn a_full_round_is_seen_and_two_in_a_window_are_not_too_many() {
+        for kind in [1, 2] {
+            let mut counts = Counts::default();
+            let mut within = stay(10, 4, kind);
+            within.hold(9, 17, &mut counts);
+            assert!(within.check(&mut counts).is_ok());
+            let OfKind { above, rounds, .. } = *within.of_kind(&mut counts);
+            assert!(above > 0 && rounds > 0);
+            within.hold(22, 23, &mut counts);
+            let fault = within.check(&mut counts).unwrap_err();
+            assert!(fault.contains("5 ticks from 13 to 23"), "{fault}");
+            let mut wholly = stay(10, 9, kind);
+            wholly.hold(5, 40, &mut counts);
+            assert!(wholly.check(&mut counts).is_err());
+        }
+    }
+
+    #[test]
+    fn usable_ticks_are_counted_from_the_latest_boundary() {
+        let mut counts = Counts::default();
+        let mut deferrable = stay(10, 4, 1);
+        assert_eq!(deferrable.usable(3), 4);
+        deferrable.hold(5, 7, &mut counts);
+        assert_eq!([7, 12, 13, 40].map(|moment| deferrable.usable(moment)), [2, 2, 4, 4]);
+    }
+
+    #[test]
+    fn a_polling_one_has_ticks_only_where_its_boundary_found_it_runnable() {
+        let mut counts = Counts::default();
+        let mut polling = stay(10, 4, 2);
+        polling.leave(true);
+        polling.pass(3, 12);
+        assert_eq!(polling.usable(12), 0);
+        polling.pass(12, 13);
+        assert_eq!(polling.usable(13), 4);
+        polling.hold(13, 14, &mut counts);
+        assert_eq!(polling.usable(14), 3);
+        polling.leave(false);
+        polling.leave(true);
+        assert_eq!(polling.usable(14), 0);
+        polling.leave(false);
+        polling.pass(14, 23);
+        polling.leave(true);
+        assert_eq!(polling.usable(23), 0);
+    }
+}
