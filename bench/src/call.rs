@@ -50,3 +50,71 @@ pub const SPORADIC: u8 = 0;
 pub const POLLING: u8 = 2;
 pub const MOST_VCPUS: usize = 32;
 pub const MOST_PENDING: usize = 8;
+
+#[cfg(test)]
+mod tests {
+    use super::*;
+    use crate::{plain, twin};
+
+    const MOST: u32 = u32::MAX;
+
+    /// Terms, and the row that they meet by themselves.
+    const TERMS: [(u32, u32, u8); 12] = [
+        (0, 0, 5),
+        (0, 1, 5),
+        (LARGEST_PERIOD + 1, 0, 5),
+        (LARGEST_PERIOD + 1, LARGEST_PERIOD + 2, 5),
+        (MOST, MOST, 5),
+        (1, 0, 11),
+        (LARGEST_PERIOD, 0, 11),
+        (1, 2, 12),
+        (LARGEST_PERIOD, LARGEST_PERIOD + 1, 12),
+        (LARGEST_PERIOD, MOST, 12),
+        (1, 1, 0),
+        (LARGEST_PERIOD, LARGEST_PERIOD, 0),
+    ];
+
+    fn admit(core: &mut impl Scheduler, id: u32, terms: (u32, u32), kind: u8) -> (u8, u64) {
+        let (period, capacity) = terms;
+        let new = Description {
+            id,
+            period,
+            capacity,
+            priority: 1,
+            kind,
+        };
+        let reply = core.turn(0, Change::Admit(new));
+        reply.map_or_else(|refusal| (refusal.number, refusal.detail), |_| (0, 0))
+    }
+
+    /// On a card with 31 VCPUs and then on a full one. `open` is the row where no other applies.
+    fn try_terms(core: &mut impl Scheduler, new: u32, open: u8) {
+        for (period, capacity, row) in TERMS {
+            let terms = (period, capacity);
+            let or = |other: u8| (if row == 0 { other } else { row }, 0);
+            assert_eq!(admit(core, 1 << 24, terms, 3), (4, 0));
+            assert_eq!(admit(core, 0, terms, 3), or(10));
+            assert_eq!(admit(core, 0, terms, 0), or(6));
+            assert_eq!(admit(core, new, terms, 255), or(10));
+            if open > 0 || row > 0 {
+                assert_eq!(admit(core, new, terms, 0), or(open));
+            }
+        }
+    }
+
+    fn try_admits(mut core: impl Scheduler) {
+        for id in 0..31 {
+            assert_eq!(admit(&mut core, id, (10, 3), 0), (0, 0));
+        }
+        try_terms(&mut core, 31, 0);
+        assert_eq!(admit(&mut core, 31, (1, 1), 2), (0, 0));
+        try_terms(&mut core, 32, 8);
+    }
+
+    /// The order 4, 5, 11, 12, 10, 6, 8.
+    #[test]
+    fn an_admit_is_refused_by_the_first_row_that_applies() {
+        try_admits(plain::Core::empty());
+        try_admits(twin::Core::empty());
+    }
+}

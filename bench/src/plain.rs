@@ -145,7 +145,7 @@ impl Core {
         self.vcpus().iter().position(|vcpu| vcpu.id == id)
     }
 
-    /// Rows 1 to 8 of the reply numbers, with 10 behind 5; the place in the table that the call speaks of.
+    /// Rows 1 to 8 of the reply numbers, with 11, 12 and 10 behind 5; the place in the table that the call speaks of.
     fn judge(&self, now: u64, change: &Change) -> Result<usize, Refusal> {
         if now > LARGEST_TIME {
             return refuse(1);
@@ -173,9 +173,14 @@ impl Core {
         if new.id > LARGEST_IDENTIFIER {
             return refuse(4);
         }
-        let periods = 1..=LARGEST_PERIOD;
-        if !periods.contains(&new.period) || !(1..=new.period).contains(&new.capacity) {
+        if !(1..=LARGEST_PERIOD).contains(&new.period) {
             return refuse(5);
+        }
+        if new.capacity == 0 {
+            return refuse(11);
+        }
+        if new.capacity > new.period {
+            return refuse(12);
         }
         if new.kind > POLLING {
             return refuse(10);

@@ -1,6 +1,6 @@
 //! Event records: bytes to a call and back.
 
-use crate::call::{refuse, Change, Description, Refusal};
+use crate::call::{Change, Description};
 
 const HEADER: usize = 3;
 
@@ -27,19 +27,20 @@ fn id_of(bytes: &[u8]) -> u32 {
     number4(&bytes[7..]) & 0xff_ffff
 }
 
-/// The call at the front, and how many bytes its record has.
-pub fn read(bytes: &[u8]) -> Result<(u64, Change, usize), Refusal> {
+/// The call at the front, and how many bytes its record has, or the number that refuses it. Where
+/// the record begins is for the front to say.
+pub fn read(bytes: &[u8]) -> Result<(u64, Change, usize), u8> {
     if bytes.len() < HEADER {
-        return refuse(20);
+        return Err(20);
     }
     let Some(length) = whole(bytes[0]) else {
-        return refuse(21);
+        return Err(21);
     };
     if usize::from(bytes[1]) * 256 + usize::from(bytes[2]) != length - HEADER {
-        return refuse(22);
+        return Err(22);
     }
     if bytes.len() < length {
-        return refuse(20);
+        return Err(20);
     }
     let payload = &bytes[HEADER..length];
     let change = match bytes[0] {

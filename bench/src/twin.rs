@@ -176,9 +176,14 @@ impl Core {
         if new.id > LARGEST_IDENTIFIER {
             return refuse(4);
         }
-        let period_fits = new.period >= 1 && new.period <= LARGEST_PERIOD;
-        if !period_fits || new.capacity < 1 || new.capacity > new.period {
+        if new.period < 1 || new.period > LARGEST_PERIOD {
             return refuse(5);
+        }
+        if new.capacity < 1 {
+            return refuse(11);
+        }
+        if new.capacity > new.period {
+            return refuse(12);
         }
         if new.kind > POLLING {
             return refuse(10);

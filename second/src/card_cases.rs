@@ -2,8 +2,10 @@
 
 use crate::endings;
 use crate::kind_cases;
+use crate::offsets;
 use crate::reached::Reached;
 use crate::refusal::Refusal;
+use crate::row_cases;
 use crate::turns::{Call, Change, Charged, Core, Description, Reply, Vcpu};
 use crate::turns::{LARGEST_IDENTIFIER, LARGEST_PERIOD, LARGEST_TIME, MOST_PENDING, MOST_VCPUS};
 use std::collections::BTreeSet;
@@ -24,7 +26,7 @@ pub struct Before {
     timer: Option<u64>,
     running: Option<Vcpu>,
     count: usize,
-    on_card: bool,
+    rows: Vec<u32>,
     was_runnable: bool,
     returns: Vec<(bool, usize)>,
     kinds: kind_cases::Before,
@@ -62,7 +64,7 @@ pub fn before(core: &Core, call: &Call, notes: &Notes) -> Before {
         timer: core.timer,
         running: core.chosen().map(Vcpu::without_history),
         count: core.vcpus.len(),
-        on_card: vcpu.is_some(),
+        rows: row_cases::rows(core, call),
         was_runnable: vcpu.is_some_and(|vcpu| vcpu.runnable()),
         returns: core.vcpus.values().map(returning).collect(),
         kinds: kind_cases::before(core, call, named, &notes.kinds),
@@ -97,56 +99,13 @@ pub fn note(
 fn note_refusal(before: &Before, call: &Call, refusal: &Refusal, core: &Core, reached: &mut Reached) {
     let number = refusal.number;
     reached.add(format!("{} no {number}", word(&call.change)));
-    let late = before.timer.is_some_and(|timer| call.time > timer);
-    let (bad_admit, kind) = match call.change {
-        Change::Admit(Description { period, capacity, kind, .. }) => {
-            (period < 1 || period > LARGEST_PERIOD || capacity < 1 || capacity > period, kind)
-        }
-        _ => (false, 0),
-    };
-    let admit = word(&call.change) == "admit";
-    let unknown = !admit && word(&call.change) != "tick" && !before.on_card;
-    let full = before.count == MOST_VCPUS;
-    reached.add_if(number == 1 && late, "1 before 3");
-    reached.add_if(number == 1 && unknown, "1 before 7");
+    reached.add_refusal(number);
+    row_cases::note(&before.rows, call, number, reached);
     reached.add_if(number == 1 && call.time == LARGEST_TIME + 1, "1 by one tick");
-    reached.add_if(number == 2 && unknown, "2 before 7");
-    reached.add_if(number == 2 && bad_admit, "2 before 5");
-    reached.add_if(number == 3 && unknown, "3 before 7");
-    reached.add_if(number == 3 && bad_admit, "3 before 5");
     reached.add_if(number == 3 && refusal.detail + 1 == call.time, "3 by one tick");
-    reached.add_if(number == 5 && before.on_card, "5 before 6");
-    reached.add_if(number == 5 && full, "5 before 8");
-    reached.add_if(number == 6 && full, "6 before 8");
-    if kind > 2 {
-        note_unknown_kind(number, kind, before.on_card, full, reached);
-    }
-    if let (5, Change::Admit(description)) = (number, call.change) {
-        note_range(&description, reached);
-    }
     if let (7, Some(identifier)) = (number, identifier(&call.change)) {
         reached.add_if(has_same_low_bits(core, identifier), "7 though the low 16 bits are on the card");
     }
-}
-
-/// A refused admit whose kind is unknown: what stands beside 10, on either side of it.
-fn note_unknown_kind(number: u32, kind: u8, on_card: bool, full: bool, reached: &mut Reached) {
-    if [2, 3, 5].contains(&number) {
-        reached.add(format!("{number} before 10"));
-    }
-    reached.add_if(number == 10 && on_card, "10 before 6");
-    reached.add_if(number == 10 && full, "10 before 8");
-    reached.add_if(number == 10 && kind == 3, "10: kind 3");
-    reached.add_if(number == 10 && kind == 255, "10: kind 255");
-}
-
-fn note_range(description: &Description, reached: &mut Reached) {
-    let Description { period, capacity, .. } = *description;
-    reached.add_if(period == 0 && capacity == 0, "5: both 0");
-    reached.add_if(period == 0 && capacity > 0, "5: period 0");
-    reached.add_if(period == LARGEST_PERIOD + 1, "5: period 1000001");
-    reached.add_if(period > 0 && capacity == 0, "5: capacity 0");
-    reached.add_if(period > 0 && capacity == period.wrapping_add(1), "5: capacity above the period");
 }
 
 fn has_same_low_bits(core: &Core, identifier: u32) -> bool {
@@ -224,6 +183,7 @@ fn note_change(before: &Before, call: &Call, core: &Core, reached: &mut Reached)
         Change::Admit(description) => {
             reached.add_if(core.vcpus.len() == MOST_VCPUS, "the card becomes full");
             note_description(&description, core, reached);
+            row_cases::note_terms(&description, 0, reached);
         }
         _ => (),
     }
@@ -293,11 +253,13 @@ pub fn asked() -> Vec<String> {
     let mut all: Vec<String> = PLAIN.iter().map(|case| case.to_string()).collect();
     all.extend(endings::all_cases());
     all.extend(kind_cases::asked());
+    all.extend(row_cases::asked());
+    all.extend(offsets::asked());
     for word in ["admit", "wake", "block", "remove", "tick"] {
         all.push(format!("{word} ok"));
         all.extend([1, 2, 3].map(|row| format!("{word} no {row}")));
     }
-    all.extend([5, 6, 8, 10].map(|row| format!("admit no {row}")));
+    all.extend(row_cases::OF_ADMIT.map(|row| format!("admit no {row}")));
     all.extend(["wake", "block", "remove"].map(|word| format!("{word} no 7")));
     for tag in 1..=5 {
         all.push(format!("time of tag {tag} damaged"));
@@ -309,30 +271,9 @@ pub fn asked() -> Vec<String> {
     all
 }
 
-const PLAIN: [&str; 73] = [
-    "1 before 3",
-    "1 before 7",
+const PLAIN: [&str; 52] = [
     "1 by one tick",
-    "2 before 7",
-    "2 before 5",
-    "3 before 7",
-    "3 before 5",
     "3 by one tick",
-    "5 before 6",
-    "5 before 8",
-    "6 before 8",
-    "2 before 10",
-    "3 before 10",
-    "5 before 10",
-    "10 before 6",
-    "10 before 8",
-    "10: kind 3",
-    "10: kind 255",
-    "5: both 0",
-    "5: period 0",
-    "5: period 1000001",
-    "5: capacity 0",
-    "5: capacity above the period",
     "7 though the low 16 bits are on the card",
     "idle with a timer",
     "idle without a timer",

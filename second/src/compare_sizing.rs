@@ -34,9 +34,9 @@ pub struct Plan {
     pub wait: Duration,
 }
 
-struct Asked {
-    line: Vec<u8>,
-    answer: Option<Answer>,
+pub struct Asked {
+    pub line: Vec<u8>,
+    pub answer: Option<Answer>,
 }
 
 /// The answer of one line. The last may have no newline.
@@ -50,10 +50,10 @@ fn answer_alone(line: &[u8]) -> Option<Answer> {
     reader.end()
 }
 
-fn ask_all(plan: &Plan, reached: &mut Reached) -> Vec<Asked> {
-    let mut queries = Queries::new(plan.seed);
+pub fn ask_all(seed: u64, count: u64, reached: &mut Reached) -> Vec<Asked> {
+    let mut queries = Queries::new(seed);
     let mut all: Vec<Asked> = Vec::new();
-    for _ in 1..plan.count {
+    for _ in 1..count {
         let line = queries.next();
         let answer = answer_alone(&line);
         query_cases::note(&line, answer.as_ref(), reached);
@@ -75,7 +75,7 @@ fn shown(bytes: &[u8]) -> String {
 }
 
 /// The first answer that differs, told in words.
-fn first_difference(asked: &[Asked], output: &[u8]) -> Option<String> {
+pub fn first_difference(asked: &[Asked], output: &[u8]) -> Option<String> {
     let mut rest = output;
     let mut number = 0;
     for query in asked {
@@ -155,7 +155,7 @@ pub fn run(plan: &Plan) -> Result<String, String> {
     compare_ends(&plan.program, plan.wait)?;
     compare_talk(&plan.program)?;
     let mut reached = Reached::default();
-    let asked = ask_all(plan, &mut reached);
+    let asked = ask_all(plan.seed, plan.count, &mut reached);
     let input: Vec<u8> = asked.iter().flat_map(|query| query.line.iter().copied()).collect();
     let output = pipe::feed(&plan.program, &input)?;
     if let Some(difference) = first_difference(&asked, &output) {
@@ -169,6 +169,7 @@ pub fn run(plan: &Plan) -> Result<String, String> {
     if !missing.is_empty() {
         return Err(format!("seed {}: cases not reached: {}", plan.seed, missing.join(", ")));
     }
+    println!("{}", reached.refusals());
     Ok(format!("compare-sizing: {} queries agree, {} cases reached", asked.len(), cases.len()))
 }
 

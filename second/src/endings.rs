@@ -99,6 +99,7 @@ fn unknown(tag: u8, time: u64, identifier: u32) -> Vec<u8> {
 mod tests {
     use super::*;
     use crate::lines::Card;
+    use crate::turns::Core;
 
     /// The number that each kind is meant to be refused with.
     fn meant(kind: Kind) -> Option<u32> {
@@ -111,13 +112,15 @@ mod tests {
     }
 
     #[test]
-    fn every_ending_reads_as_its_number() {
+    fn every_ending_reads_as_its_number_and_its_offset() {
         for (place, (case, kind)) in names().into_iter().enumerate() {
             let ending = ending(place as u64, 77, 257);
-            let mut card = Card::new();
-            let lines = card.take(&ending.record) + &card.end();
-            let right = meant(kind).map_or(String::new(), |number| format!("no {number} 0\n"));
-            assert_eq!(lines, right, "{case}");
+            for offset in [0, 137, 70_000] {
+                let mut card = Card::after(Core::new(), offset);
+                let lines = card.take(&ending.record) + &card.end();
+                let right = meant(kind).map_or(String::new(), |number| format!("no {number} {offset}\n"));
+                assert_eq!(lines, right, "{case}");
+            }
         }
     }
 }

@@ -7,6 +7,7 @@ use crate::lines::{self, Card};
 use crate::random::Random;
 use crate::reached::Reached;
 use crate::records;
+use crate::row_cases;
 use crate::turns::{Call, Change, Core, Description, Vcpu};
 use crate::turns::{LARGEST_IDENTIFIER, LARGEST_PERIOD, LARGEST_TIME};
 
@@ -68,6 +69,9 @@ const MOODS: [Mood; 10] = [
     Mood { most: 3, periods: (90, 900), capacities: Capacities::Many, blinks: true, ..CALM },
 ];
 
+/// How many calls go by from one refused admit to the next, about.
+const REFUSED_ONCE_IN: u64 = 25;
+
 /// Which kinds a run admits. A run of sporadic ones alone is, but for the byte of its kind,
 /// the run of document 01: nothing more is drawn for it.
 #[derive(Clone, Copy, PartialEq)]
@@ -84,6 +88,8 @@ pub struct Generator<'a> {
     random: Random,
     mood: Mood,
     kinds: Kinds,
+    /// What refused admits between the calls are drawn from, if there are any.
+    refused: Option<Random>,
     pool: Vec<u32>,
     core: Core,
     notes: Notes,
@@ -93,21 +99,14 @@ pub struct Generator<'a> {
 
 /// The run of a seed and a place, of about so many records.
 pub fn run(seed: u64, place: u64, length: u64, reached: &mut Reached) -> Run {
-    let tens = place / MOODS.len() as u64;
-    run_of(KINDS[(tens % KINDS.len() as u64) as usize], seed, place, length, reached)
+    let mut generator = Generator::new(kinds_at(place), seed, place, reached);
+    generator.refused = Some(Random::new(generator.random.clone().next()));
+    generator.write(place, length)
 }
 
-fn run_of(kinds: Kinds, seed: u64, place: u64, length: u64, reached: &mut Reached) -> Run {
-    let mut random = Random::new(seed.wrapping_mul(1_000_003).wrapping_add(place));
-    let mood = MOODS[(place % MOODS.len() as u64) as usize];
-    let pool = identifiers(&mut random);
-    let core = Core::new();
-    let run = Run::default();
-    let notes = Notes::default();
-    let mut generator = Generator { random, mood, kinds, pool, core, notes, run, reached };
-    generator.fill(length);
-    generator.finish(place);
-    generator.run
+fn kinds_at(place: u64) -> Kinds {
+    let tens = place / MOODS.len() as u64;
+    KINDS[(tens % KINDS.len() as u64) as usize]
 }
 
 /// Pairs that are equal in their low 16 bits, and the two ends.
@@ -121,6 +120,22 @@ fn identifiers(random: &mut Random) -> Vec<u32> {
 }
 
 impl Generator<'_> {
+    fn new(kinds: Kinds, seed: u64, place: u64, reached: &mut Reached) -> Generator<'_> {
+        let mut random = Random::new(seed.wrapping_mul(1_000_003).wrapping_add(place));
+        let mood = MOODS[(place % MOODS.len() as u64) as usize];
+        let pool = identifiers(&mut random);
+        let core = Core::new();
+        let run = Run::default();
+        let notes = Notes::default();
+        Generator { random, mood, kinds, refused: None, pool, core, notes, run, reached }
+    }
+
+    fn write(mut self, place: u64, length: u64) -> Run {
+        self.fill(length);
+        self.finish(place);
+        self.run
+    }
+
     fn fill(&mut self, length: u64) {
         if self.mood.late {
             self.admit_for_the_leap();
@@ -141,7 +156,45 @@ impl Generator<'_> {
                 self.damage(&mut record);
             }
             self.put(record);
+            self.put_refused();
         }
+    }
+
+    /// Now and then an admit that some row refuses. A refusal changes nothing, so the calls
+    /// around it are those of the run without it.
+    fn put_refused(&mut self) {
+        let Some(mut random) = self.refused.take() else { return };
+        if random.once_in(REFUSED_ONCE_IN) {
+            let call = self.faulty_admit(&mut random);
+            if !row_cases::rows(&self.core, &call).is_empty() {
+                self.put(records::write(&call));
+            }
+        }
+        self.refused = Some(random);
+    }
+
+    /// Mostly with several faults: the time, the terms, the kind and the identifier.
+    fn faulty_admit(&self, random: &mut Random) -> Call {
+        let time = match (random.below(8), self.core.timer) {
+            (0, _) => LARGEST_TIME + 1,
+            (1, _) => self.core.last.saturating_sub(1),
+            (2, Some(timer)) => timer + 1,
+            _ => self.core.last,
+        };
+        let (period, capacity) = match random.below(8) {
+            0 | 1 => (10, 3),
+            2 => *random.pick(&row_cases::LOW_BITS),
+            _ => {
+                let (period, capacity, _) = *random.pick(&row_cases::TERMS);
+                (period, capacity)
+            }
+        };
+        let kind = *random.pick(&[0, 1, 2, 0, 1, 2, 3, 255]);
+        let on_card: Vec<u32> = self.core.vcpus.keys().copied().collect();
+        let known = random.once_in(2) && !on_card.is_empty();
+        let identifier = *random.pick(if known { &on_card } else { &self.pool });
+        let description = Description { identifier, period, capacity, priority: 1, kind };
+        Call { time, change: Change::Admit(description) }
     }
 
     /// Nobody is runnable yet, so the leap passes all boundaries there are in one call.
@@ -172,14 +225,16 @@ impl Generator<'_> {
         let time = self.core.last;
         let ending = endings::ending(place, time, self.pool[0]);
         self.reached.add(ending.case);
-        let mut card = Card::after(std::mem::replace(&mut self.core, Core::new()));
+        let offset = self.run.input().len() as u64;
+        let mut card = Card::after(std::mem::replace(&mut self.core, Core::new()), offset);
         let mut lines = card.take(&ending.record);
         if card.has_stopped() && self.random.once_in(2) {
             self.run.behind = records::write(&Call { time, change: Change::Tick });
             self.reached.add("bytes behind a stop");
         }
         lines += &(card.take(&self.run.behind) + &card.end());
-        if !ending.record.is_empty() {
+        if let (Err(number), false) = (records::read(&ending.record), ending.record.is_empty()) {
+            self.reached.add_refusal(number);
             self.run.records.push(ending.record);
             self.run.lines.push(lines);
         }
@@ -409,24 +464,64 @@ mod tests {
         }
     }
 
-    /// Every run of document 01 gives with the kind 0 the lines that it gave before. The sum
-    /// is that of the second program before request 1 (commit 024849a), over the whole
-    /// records and the lines of `run(1, place, 400, ..)` for these places: this test there,
-    /// with its own `run` and records as they are.
-    #[test]
-    fn runs_of_document_01_give_the_lines_they_gave() {
+    /// A line as it was before request 2, which gave 5 where it gives 11 and 12.
+    fn without_split(line: &str) -> &str {
+        match line {
+            "no 11 0\n" | "no 12 0\n" => "no 5 0\n",
+            _ => line,
+        }
+    }
+
+    /// The sum over the whole records and the lines of a thousand runs, and how many those
+    /// are. The ending alone is no whole record.
+    fn summed(kinds: impl Fn(u64) -> Kinds, written: impl Fn(&[u8]) -> Vec<u8>) -> (u64, u64) {
         let (mut sum, mut count) = (0xcbf2_9ce4_8422_2325, 0);
         for place in 0..1000 {
-            let run = run_of(Kinds::Sporadic, 1, place, 400, &mut Reached::default());
-            // The ending alone is no whole record.
-            let whole =
-                run.records.iter().zip(&run.lines).filter(|(record, _)| records::read(record).is_ok());
-            for (record, line) in whole {
-                join(&mut sum, &without_kind(record));
-                join(&mut sum, line.as_bytes());
+            let run = Generator::new(kinds(place), 1, place, &mut Reached::default()).write(place, 400);
+            for (record, line) in whole(&run) {
+                join(&mut sum, &written(record));
+                join(&mut sum, without_split(line).as_bytes());
                 count += 1;
             }
         }
-        assert_eq!((sum, count), (0xf03b_46e7_ffe3_63b0, 385_693));
+        (sum, count)
+    }
+
+    /// Every run of document 01 gives with the kind 0 the lines that it gave before. The sum
+    /// is that of the second program before request 1 (commit 024849a), over the whole
+    /// records and the lines of its `run(1, place, 400, ..)` for these places.
+    #[test]
+    fn runs_of_document_01_give_the_lines_they_gave() {
+        assert_eq!(summed(|_| Kinds::Sporadic, without_kind), (0xf03b_46e7_ffe3_63b0, 385_693));
+    }
+
+    /// The same of request 1: the sum is that of the second program before request 2 (commit
+    /// c7dea83).
+    #[test]
+    fn runs_of_request_1_give_the_lines_they_gave() {
+        assert_eq!(summed(kinds_at, <[u8]>::to_vec), (0x98f7_a902_7335_27f2, 387_199));
+    }
+
+    /// The whole records with their lines.
+    fn whole(run: &Run) -> Vec<(&Vec<u8>, &String)> {
+        let all = run.records.iter().zip(&run.lines);
+        all.filter(|(record, _)| records::read(record).is_ok()).collect()
+    }
+
+    /// The admits between the calls are all refused, and the calls around them are the same.
+    #[test]
+    fn refused_admits_change_nothing_else() {
+        let mut count = 0;
+        for place in 0..100 {
+            let without =
+                Generator::new(kinds_at(place), 1, place, &mut Reached::default()).write(place, 100);
+            let with = run(1, place, 100, &mut Reached::default());
+            let mut left = whole(&without).into_iter().peekable();
+            let is_added = |both: &(&Vec<u8>, &String)| left.next_if(|next| next == both).is_none();
+            let added: Vec<_> = whole(&with).into_iter().filter(is_added).collect();
+            assert!(left.next().is_none() && added.iter().all(|(_, line)| line.starts_with("no ")));
+            count += added.len();
+        }
+        assert!(count > 200, "{count}");
     }
 }

@@ -1,7 +1,7 @@
 //! `card`: event records to lines.
 
 use crate::records;
-use crate::refusal::Refusal;
+use crate::refusal::{refuse_with, Refusal};
 use crate::turns::{Core, Reply};
 use std::io::{self, Read, Write};
 
@@ -23,27 +23,36 @@ pub fn line(answer: &Result<Reply, Refusal>) -> String {
 /// The card as far as the input has been read.
 pub struct Card {
     core: Core,
+    /// Where the first byte that is not used up stands, from the start of input.
+    offset: u64,
     unread: Vec<u8>,
     stopped: bool,
 }
 
 impl Card {
     pub fn new() -> Card {
-        Card::after(Core::new())
+        Card::after(Core::new(), 0)
     }
 
-    /// The card that has answered all its records so far and stands so.
-    pub fn after(core: Core) -> Card {
-        Card { core, unread: Vec::new(), stopped: false }
+    /// The card that has answered all its records so far, of so many bytes, and stands so.
+    pub fn after(core: Core, offset: u64) -> Card {
+        Card { core, offset, unread: Vec::new(), stopped: false }
+    }
+
+    /// The bytes of all that it has answered so far.
+    #[cfg(test)]
+    pub fn offset(&self) -> u64 {
+        self.offset
     }
 
     pub fn has_stopped(&self) -> bool {
         self.stopped
     }
 
-    fn stop(&mut self, refusal: Refusal) -> String {
+    /// The bad record begins where the last good one ended.
+    fn stop(&mut self, number: u32) -> String {
         self.stopped = true;
-        line(&Err(refusal))
+        line(&refuse_with(number, self.offset))
     }
 
     /// The lines that can be given before more bytes come.
@@ -55,10 +64,11 @@ impl Card {
             match records::read(&self.unread[used..]) {
                 Ok((call, length)) => {
                     used += length;
+                    self.offset = self.offset.saturating_add(length as u64);
                     lines += &line(&self.core.call(&call));
                 }
-                Err(refusal) if refusal.number == 20 => break,
-                Err(refusal) => lines += &self.stop(refusal),
+                Err(20) => break,
+                Err(number) => lines += &self.stop(number),
             }
         }
         self.unread.drain(..used);
@@ -71,7 +81,7 @@ impl Card {
             return String::new();
         }
         match records::read(&self.unread) {
-            Err(refusal) => self.stop(refusal),
+            Err(number) => self.stop(number),
             Ok(_) => String::new(),
         }
     }
@@ -108,7 +118,7 @@ mod tests {
         ("tick 10", "ok 10 65793 3 13"),
         ("block 11 id 65793", "ok 11 257 8 19"),
         ("remove 11 id 65537", "no 7 0"),
-        ("bytes 05", "no 20 0"),
+        ("bytes 05", "no 20 137"),
     ];
 
     fn whole_case() -> (Vec<u8>, String) {
@@ -144,13 +154,57 @@ mod tests {
         assert!(output.is_empty());
     }
 
+    const TICK: [u8; 11] = [5, 0, 8, 0, 0, 0, 0, 0, 0, 0, 0];
+
+    /// All bad records, of which 20 shows at the end of input alone.
+    const BAD: [(&[u8], u32); 5] = [
+        (&[5, 0], 20),
+        (&[6, 0, 13], 21),
+        (&[5, 0, 7], 22),
+        (&[5, 0, 8], 20),
+        (&[5, 0, 8, 0, 0, 0, 0, 0, 0, 0], 20),
+    ];
+
+    /// The detail is where the bad record begins, however the input comes in parts: each part
+    /// ends in front of it, or within it.
+    #[test]
+    fn a_bad_record_is_told_by_its_beginning() {
+        for ticks in [0, 1, 23, 24, 5_957, 5_958, 20_000] {
+            let before = TICK.repeat(ticks);
+            for (record, number) in BAD {
+                let meant = "ok 0 - 0 -\n".repeat(ticks) + &format!("no {number} {}\n", 11 * ticks);
+                let input = [&before[..], record].concat();
+                let told = |cut| {
+                    let mut card = Card::new();
+                    let (front, rest) = input.split_at(before.len() + cut);
+                    card.take(front) + &card.take(rest) + &card.end()
+                };
+                assert!((0..record.len()).all(|cut| told(cut) == meant), "{number} behind {ticks}");
+            }
+        }
+    }
+
+    /// The detail is 64 bits wide, and stays at the largest that there is.
+    #[test]
+    fn an_offset_of_64_bits() {
+        let from = [1 << 32, u64::MAX - 11, u64::MAX - 10, u64::MAX];
+        for (offset, told) in from.into_iter().zip([(1 << 32) + 11, u64::MAX, u64::MAX, u64::MAX]) {
+            for (record, number) in BAD {
+                let mut card = Card::after(Core::new(), offset);
+                let lines = card.take(&TICK) + &card.take(record) + &card.end();
+                assert_eq!(lines, format!("ok 0 - 0 -\nno {number} {told}\n"));
+            }
+        }
+    }
+
     #[test]
     fn a_bad_header_is_answered_at_once_and_stops() {
-        for (header, answer) in [([6, 0, 13], "no 21 0\n"), ([5, 0, 7], "no 22 0\n")] {
+        for (header, answer) in [([6, 0, 13], "no 21 11\n"), ([5, 0, 7], "no 22 11\n")] {
             let mut card = Card::new();
+            assert_eq!(card.take(&TICK), "ok 0 - 0 -\n");
             assert_eq!(card.take(&header[..2]), "");
             assert_eq!(card.take(&header[2..]), answer);
-            assert_eq!(card.take(&[5, 0, 8, 0, 0, 0, 0, 0, 0, 0, 0]), "");
+            assert_eq!(card.take(&TICK), "");
             assert_eq!(card.end(), "");
         }
     }
@@ -160,27 +214,32 @@ mod tests {
     #[test]
     fn row_4_on_the_library() {
         const LARGEST: u32 = 16_777_215;
-        let admit = |identifier, capacity, kind| {
-            Change::Admit(Description { identifier, period: 10, capacity, priority: 1, kind })
+        let admit = |identifier, period, capacity, kind| {
+            Change::Admit(Description { identifier, period, capacity, priority: 1, kind })
         };
-        let calls = [
-            (0, admit(LARGEST, 3, 0)),
+        let refused = [
+            (0, admit(LARGEST, 10, 3, 0)),
             (0, Change::Wake(LARGEST)),
-            (0, admit(LARGEST + 1, 3, 0)),
+            (0, admit(LARGEST + 1, 10, 3, 0)),
             (0, Change::Wake(33_554_431)),
             (0, Change::Block(33_554_431)),
             (0, Change::Remove(u32::MAX)),
             (0, Change::Tick),
+        ];
+        let bad_terms = [(1_000_001, 3, 0), (10, 0, 0), (10, 11, 0), (10, 3, 3)];
+        let behind = [LARGEST + 1, LARGEST].map(|identifier| {
+            bad_terms.map(|(period, capacity, kind)| (0, admit(identifier, period, capacity, kind)))
+        });
+        let ordered = [
             (1_000_000_000_001, Change::Wake(LARGEST + 1)),
             (4, Change::Wake(LARGEST + 1)),
-            (0, admit(LARGEST + 1, 0, 0)),
-            (0, admit(LARGEST + 1, 3, 3)),
             (2, Change::Tick),
             (1, Change::Remove(LARGEST + 1)),
             (3, Change::Tick),
         ];
+        let calls = [&refused[..], behind.as_flattened(), &ordered].concat();
         let mut core = Core::new();
-        let lines: String = calls.map(|(time, change)| line(&core.call(&Call { time, change }))).concat();
-        assert_eq!(lines, include_str!("../../crates/wide/stdout"));
+        let lines = calls.into_iter().map(|(time, change)| line(&core.call(&Call { time, change })));
+        assert_eq!(lines.collect::<String>(), include_str!("../../crates/wide/stdout"));
     }
 }

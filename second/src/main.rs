@@ -9,18 +9,25 @@ mod ends;
 mod generate;
 mod kind_cases;
 mod lines;
+mod offsets;
 mod outside;
 mod picture;
 mod queries;
 mod query_cases;
 mod reached;
 mod records;
+mod row_cases;
 mod sizing;
 mod stays;
 mod turns;
+mod ways;
 mod words;
 #[cfg(test)]
 mod wrong_cards;
+#[cfg(test)]
+mod wrong_replies;
+#[cfg(test)]
+mod wrong_sizings;
 
 use options::Options;
 use second::{options, pipe, random, refusal, shares};

@@ -2,14 +2,19 @@
 //! checked from the lines that the given program wrote and the records it was given, and from
 //! nothing else. Who runs from one time to the next stands in the lines; periods, capacities
 //! and kinds stand in the admits, and who is runnable follows from the wakes and blocks that
-//! were accepted.
+//! were accepted. A refusal is checked as far as the records alone say what it is: where a bad
+//! record begins, and what is wrong with an admit's terms.
 
 use crate::generate::{self, Run};
+use crate::lines;
 use crate::pipe;
 use crate::reached::Reached;
 use crate::records;
+use crate::refusal::Refusal;
+use crate::row_cases;
 use crate::stays::{Counts, OfKind, Stay};
-use crate::turns::Change;
+use crate::turns::{Call, Change};
+use crate::words;
 use std::collections::BTreeMap;
 
 pub struct Plan {
@@ -26,19 +31,36 @@ pub struct Told {
     pub timer: Option<u64>,
 }
 
-/// None for a refusal.
-pub fn read_line(line: &str) -> Result<Option<Told>, String> {
+pub fn read_line(line: &str) -> Result<Result<Told, Refusal>, String> {
     let words: Vec<&str> = line.split(' ').collect();
     let wrong = || format!("no line of the card: {line}");
     match words[..] {
-        ["no", ..] => Ok(None),
-        ["ok", time, run, usable, timer] => Ok(Some(Told {
+        ["no", number, detail] => Ok(Err(Refusal {
+            number: number.parse().map_err(|_| wrong())?,
+            detail: detail.parse().map_err(|_| wrong())?,
+        })),
+        ["ok", time, run, usable, timer] => Ok(Ok(Told {
             time: time.parse().map_err(|_| wrong())?,
             run: if run == "-" { None } else { Some(run.parse().map_err(|_| wrong())?) },
             usable: usable.parse().map_err(|_| wrong())?,
             timer: if timer == "-" { None } else { Some(timer.parse().map_err(|_| wrong())?) },
         })),
         _ => Err(wrong()),
+    }
+}
+
+/// The rows that a record alone decides.
+const DECIDED: [u32; 7] = [20, 21, 22, 5, 11, 12, 10];
+
+/// The refusal by one of them, if it meets one.
+fn decided(record: &[u8], offset: u64) -> Option<Refusal> {
+    match records::read(record) {
+        Err(number) => Some(Refusal { number, detail: offset }),
+        Ok((Call { change: Change::Admit(description), .. }, _)) => {
+            let rows = row_cases::of_terms(&description);
+            rows.iter().find(|(_, applies)| *applies).map(|&(number, _)| Refusal { number, detail: 0 })
+        }
+        Ok(_) => None,
     }
 }
 
@@ -51,6 +73,40 @@ struct View<'a> {
 }
 
 impl View<'_> {
+    /// The record that begins at `offset`, and its line.
+    fn take(&mut self, record: &[u8], offset: u64, line: &str) -> Result<(), String> {
+        let told = read_line(line)?;
+        let refusal = told.as_ref().err().copied();
+        let meant = decided(record, offset);
+        if !self.bears_out(meant, refusal) {
+            let (words, _) = words::front_in_words(record);
+            let meant = meant.map_or("another\n".to_string(), |meant| lines::line(&Err(meant)));
+            let meant = meant.trim_end();
+            return Err(format!("{words}, which begins at {offset}, gives {line}: meant is {meant}"));
+        }
+        match (records::read(record), told) {
+            (Ok((call, _)), Ok(told)) => self.accept(&call.change, &told),
+            _ => Ok(()),
+        }
+    }
+
+    /// Whether a refusal, or none, is what the record alone decides. A row of the time goes
+    /// before those of an admit's terms.
+    fn bears_out(&mut self, meant: Option<Refusal>, refusal: Option<Refusal>) -> bool {
+        let is_one_of = |rows: &[u32]| refusal.is_some_and(|refusal| rows.contains(&refusal.number));
+        match meant {
+            None => !is_one_of(&DECIDED),
+            Some(Refusal { number: 20..=22, .. }) => {
+                self.counts.stops += 1;
+                refusal == meant
+            }
+            Some(_) => {
+                self.counts.terms += u64::from(refusal == meant);
+                refusal == meant || is_one_of(&[1, 2, 3])
+            }
+        }
+    }
+
     fn accept(&mut self, change: &Change, told: &Told) -> Result<(), String> {
         if told.time < self.since {
             return Err(format!("the time falls to {}", told.time));
@@ -136,9 +192,10 @@ pub fn check_run(run: &Run, output: &str, counts: &mut Counts) -> Result<(), Str
         return Err(format!("{} lines for {} records", lines.len(), run.records.len()));
     }
     let mut view = View { stays: BTreeMap::new(), on_core: None, since: 0, counts };
+    let mut offset = 0;
     for (place, (record, line)) in run.records.iter().zip(lines).enumerate() {
-        let (Some(told), Ok((call, _))) = (read_line(line)?, records::read(record)) else { continue };
-        view.accept(&call.change, &told).map_err(|error| format!("record {}: {error}", place + 1))?;
+        view.take(record, offset, line).map_err(|error| format!("record {}: {error}", place + 1))?;
+        offset += record.len() as u64;
     }
     let View { stays, counts, .. } = view;
     stays.values().try_for_each(|stay| stay.check(counts))
@@ -172,9 +229,10 @@ fn tell(counts: &Counts, runs: u64) -> Result<String, String> {
              {usable} usable ticks"
         );
     }
-    let Counts { choices, timers, ticks, folds, cuts, .. } = counts;
+    let Counts { choices, timers, stops, terms, ticks, folds, cuts, .. } = counts;
     println!("{ticks} ticks held, {folds} stays with a fold, {cuts} cut slices");
     println!("{choices} lines at which nobody waits with ticks, {timers} timers later than their line");
+    println!("{stops} bad records told by their offset, {terms} admits refused by their terms");
     let missing = missing(counts);
     if !missing.is_empty() {
         return Err(format!("not met: {}", missing.join(", ")));
@@ -190,10 +248,11 @@ fn tell(counts: &Counts, runs: u64) -> Result<String, String> {
 /// A count of nothing is a case not met. A sporadic one has no rounds and holds no more than
 /// C in a window; a polling one that runs late in a round may hold C again in the next.
 fn missing(counts: &Counts) -> Vec<String> {
-    let Counts { choices, timers, ticks, folds, cuts, .. } = *counts;
-    let plain =
-        [(choices, "choices"), (timers, "timers"), (ticks, "ticks"), (folds, "folds"), (cuts, "cuts")];
-    let mut asked = plain.map(|(count, what)| (count, what.to_string())).to_vec();
+    let Counts { choices, timers, stops, terms, ticks, folds, cuts, .. } = *counts;
+    let lines = [(choices, "choices"), (timers, "timers"), (stops, "bad records"), (terms, "bad terms")];
+    let plain = [(ticks, "ticks"), (folds, "folds"), (cuts, "cuts")];
+    let all = lines.into_iter().chain(plain);
+    let mut asked: Vec<(u64, String)> = all.map(|(count, what)| (count, what.to_string())).collect();
     for (name, kind) in NAMES.iter().zip(&counts.kinds) {
         let OfKind { stays, windows, above, rounds, usable } = *kind;
         let mut of_kind = vec![(stays, "stays"), (windows, "windows"), (usable, "usable ticks")];
@@ -226,7 +285,8 @@ mod tests {
 
     fn all_met() -> Counts {
         let kind = |_| OfKind { stays: 1, windows: 1, above: 1, rounds: 1, usable: 1 };
-        Counts { kinds: NAMES.map(kind), choices: 1, timers: 1, ticks: 1, folds: 1, cuts: 1 }
+        let (choices, timers, stops, terms) = (1, 1, 1, 1);
+        Counts { kinds: NAMES.map(kind), choices, timers, stops, terms, ticks: 1, folds: 1, cuts: 1 }
     }
 
     #[test]
@@ -239,6 +299,49 @@ mod tests {
             assert!(lost.iter().all(|what| what.starts_with(name)), "{lost:?}");
             assert_eq!(lost.len(), if *name == "sporadic" { 3 } else { 5 });
             assert!(tell(&counts, 1).is_err());
+        }
+    }
+
+    /// Another refusal, from the right one's detail.
+    type Other = fn(u64) -> (u32, u64);
+
+    /// For those with a number.
+    const OTHERWISE: [(u32, Other); 13] = [
+        (20, |_| (20, 0)),
+        (20, |at| (20, at + 1)),
+        (20, |at| (22, at)),
+        (21, |_| (21, 0)),
+        (21, |at| (22, at)),
+        (22, |at| (22, at + 3)),
+        (22, |at| (21, at)),
+        (5, |_| (11, 0)),
+        (11, |_| (5, 0)),
+        (11, |_| (12, 0)),
+        (12, |_| (12, 1)),
+        (10, |_| (6, 0)),
+        (6, |_| (5, 0)),
+    ];
+
+    /// The first line that is changed is where a run is found out.
+    #[test]
+    fn a_refusal_that_the_records_do_not_bear_out_is_seen() {
+        for (number, other) in OTHERWISE {
+            let otherwise = |line: &String| match read_line(line.trim_end()) {
+                Ok(Err(refusal)) if refusal.number == number => {
+                    let (number, detail) = other(refusal.detail);
+                    format!("no {number} {detail}\n")
+                }
+                _ => line.clone(),
+            };
+            let mut seen = 0;
+            for run in (0..200).map(|place| run_at(1, place)) {
+                let lines: Vec<String> = run.lines.iter().map(otherwise).collect();
+                let Some(place) = (0..lines.len()).find(|&at| lines[at] != run.lines[at]) else { continue };
+                let fault = check_run(&run, &lines.concat(), &mut Counts::default()).unwrap_err();
+                assert!(fault.starts_with(&format!("record {}: ", place + 1)), "{number}: {fault}");
+                seen += 1;
+            }
+            assert!(seen > 5, "{number}: {seen}");
         }
     }
 

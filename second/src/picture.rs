@@ -109,8 +109,8 @@ impl Seen {
 fn calls(text: &str) -> Result<Vec<Call>, String> {
     let (bytes, mut used, mut calls) = (words::to_records(text)?, 0, Vec::new());
     while used < bytes.len() {
-        let (call, length) = records::read(&bytes[used..])
-            .map_err(|refusal| format!("a record is refused with {}", refusal.number))?;
+        let (call, length) =
+            records::read(&bytes[used..]).map_err(|number| format!("a record is refused with {number}"))?;
         if matches!(call.change, Change::Remove(_)) {
             return Err("a picture has no removal".to_string());
         }
@@ -128,7 +128,7 @@ fn seen(text: &str, output: &str) -> Result<Seen, String> {
     }
     let mut seen = Seen::default();
     for (call, line) in calls.iter().zip(lines) {
-        let told = outside::read_line(line)?.ok_or(format!("{line}: a picture has no refusal"))?;
+        let told = outside::read_line(line)?.map_err(|_| format!("{line}: a picture has no refusal"))?;
         seen.accept(&call.change, &told)?;
     }
     if seen.now == 0 {

@@ -113,7 +113,8 @@ impl Queries {
         match self.random.below(100) {
             0..=54 => self.small().text(),
             55..=64 => self.at_limits().text(),
-            65..=79 => self.refused().text(),
+            65..=74 => self.refused().text(),
+            75..=79 => self.bad_tasks().text(),
             80..=87 => self.odd_numbers(),
             88..=95 => self.broken(),
             96..=97 => self.long_list(),
@@ -139,6 +140,10 @@ impl Queries {
 
     fn small(&mut self) -> Draft {
         let word = *self.random.pick(&WORDS);
+        self.small_of(word)
+    }
+
+    fn small_of(&mut self, word: &'static str) -> Draft {
         let longest = *self.random.pick(&[3, 8, 20, 40]);
         let n = if self.random.once_in(10) { 16 } else { self.random.between(1, 5) };
         let tasks = match word {
@@ -225,6 +230,48 @@ impl Queries {
             let last = draft.tasks[draft.tasks.len() - 1];
             let n = self.random.between(15, 18) as usize;
             draft.tasks.resize(n, last);
+        }
+    }
+
+    /// A list that rises, and in it up to three tasks out of range and up to two periods that
+    /// fall, at places that are often the first or the last.
+    fn bad_tasks(&mut self) -> Draft {
+        let word = *self.random.pick(&WORDS[1..]);
+        let mut draft = self.small_of(word);
+        let n = if self.random.once_in(2) { 16 } else { self.random.between(2, 15) };
+        draft.tasks = (0..n).map(|place| (20 + 2 * place, 1)).collect();
+        let (wrong, falling) = (self.random.below(4), self.random.below(3));
+        (0..wrong).for_each(|_| self.spoil_task(&mut draft.tasks));
+        (0..falling).for_each(|_| self.let_fall(&mut draft.tasks));
+        draft
+    }
+
+    fn spoil_task(&mut self, tasks: &mut [(u64, u64)]) {
+        let place = self.place(tasks.len());
+        tasks[place] = self.wrong_task(tasks[place].0);
+    }
+
+    fn let_fall(&mut self, tasks: &mut [(u64, u64)]) {
+        let place = self.place(tasks.len()).max(1);
+        tasks[place].0 = tasks[place - 1].0.saturating_sub(1);
+    }
+
+    fn place(&mut self, n: usize) -> usize {
+        match self.random.below(4) {
+            0 => 0,
+            1 => n - 1,
+            _ => self.random.index(n),
+        }
+    }
+
+    fn wrong_task(&mut self, period: u64) -> (u64, u64) {
+        match self.random.below(6) {
+            0 => (0, 1),
+            1 => (2001, 1),
+            2 => ((1 << 32) + period, 1),
+            3 => (period, 0),
+            4 => (period, period + 1),
+            _ => (period, (1 << 32) + 1),
         }
     }
 

@@ -1,6 +1,7 @@
 //! Which cases a sizing query meets, told from its bytes and its answer.
 
 use crate::reached::Reached;
+use crate::refusal::Refusal;
 use crate::shares::{self, Tasks};
 use crate::sizing::Answer;
 
@@ -55,7 +56,7 @@ pub fn note(line: &[u8], answer: Option<&Answer>, reached: &mut Reached) {
         Answer::BadWord => note_word(bare, reached),
         Answer::BadField(place) => note_field(&parts, *place, reached),
         Answer::Numbers(numbers) => note_ok(&parts, numbers, reached),
-        Answer::No(refusal) => note_row(&parts, refusal.number, reached),
+        Answer::No(refusal) => note_row(&parts, refusal, reached),
     }
 }
 
@@ -137,17 +138,24 @@ fn note_tie(list: &[u128], p_max: u64, answer: &[u64], reached: &mut Reached) {
     reached.add_if(answer[0] < p_max, "best below P_max");
 }
 
-fn note_row(parts: &Parts, number: u32, reached: &mut Reached) {
+fn note_row(parts: &Parts, refusal: &Refusal, reached: &mut Reached) {
+    let Refusal { number, detail } = *refusal;
     let (word, numbers) = (parts.word, parts.numbers());
     reached.add(format!("{word} no {number}"));
+    reached.add_refusal(number);
     let two32 = 1u128 << 32;
     let two64 = 1u128 << 64;
     let wraps = |m: u128| numbers.iter().any(|&x| x > m && x < u128::MAX && (1..=2000).contains(&(x % m)));
     reached.add_if(wraps(two32), &format!("above 2^32 no {number}"));
     reached.add_if(wraps(two64), &format!("above 2^64 no {number}"));
+    if number == 31 || number == 32 {
+        reached.add(format!("no {number} {detail}"));
+        reached.add(format!("{word} no {number} {detail}"));
+    }
     match number {
         30 => note_30(&numbers[parts.leading()..], reached),
         31 => note_31(&numbers[parts.leading()..], reached),
+        32 => reached.add_if(falls(&numbers[parts.leading()..]).len() > 1, "32: the first of several"),
         33 => note_33(word, &numbers, reached),
         35 => note_35(word, &numbers, reached),
         _ => (),
@@ -163,21 +171,41 @@ fn note_30(list: &[u128], reached: &mut Reached) {
     reached.add_if(list.contains(&0), "30 before 31");
 }
 
+/// The places of all tasks whose period is below the one before, counted from 1.
+fn falls(list: &[u128]) -> Vec<usize> {
+    let periods: Vec<u128> = list.iter().step_by(2).copied().collect();
+    (2..=periods.len()).filter(|&place| periods[place - 1] < periods[place - 2]).collect()
+}
+
+const REASONS: [&str; 3] = ["its period", "a cost of 0", "a cost above the period"];
+
+/// Why row 31 applies to a task.
+fn reason(task: &[u128]) -> Option<&'static str> {
+    let (period, cost) = (task[0], task[1]);
+    let applies = [!(1..=2000).contains(&period), cost == 0, cost > period];
+    REASONS.into_iter().zip(applies).find(|&(_, applies)| applies).map(|(reason, _)| reason)
+}
+
+fn first_and_later(first: &str, later: &str) -> String {
+    format!("31: {first}, and behind it {later}")
+}
+
 fn note_31(list: &[u128], reached: &mut Reached) {
-    let falls = list.chunks(2).zip(list.chunks(2).skip(1)).any(|(a, b)| b[0] < a[0]);
-    reached.add_if(falls, "31 before 32");
-    let good = |pair: &[u128]| pair[0] >= 1 && pair[0] <= 2000 && pair[1] >= 1 && pair[1] <= pair[0];
-    let bad: Vec<usize> = (0..list.len() / 2).filter(|&k| !good(&list[2 * k..2 * k + 2])).collect();
-    for &k in &bad {
-        let (period, cost) = (list[2 * k], list[2 * k + 1]);
+    for task in list.chunks(2) {
+        let (period, cost) = (task[0], task[1]);
         reached.add_if(period == 0, "31: period 0");
         reached.add_if(period == 2001 && cost >= 1, "31: period 2001");
         reached.add_if(period > 0 && cost == 0, "31: cost 0");
         reached.add_if(period > 0 && cost.checked_sub(period) == Some(1), "31: cost above the period");
     }
-    let before_falls = list.chunks(2).zip(list.chunks(2).skip(1)).position(|(a, b)| b[0] < a[0]);
-    let behind = before_falls.is_some_and(|k| bad[0] > k + 1);
-    reached.add_if(behind, "31 behind a falling period");
+    let bad = || list.chunks(2).zip(1..).filter_map(|(task, place)| Some((reason(task)?, place)));
+    let Some((first, place)) = bad().next() else { return };
+    bad().skip(1).for_each(|(later, _)| reached.add(first_and_later(first, later)));
+    if let Some(&falls) = falls(list).first() {
+        reached.add("31 before 32");
+        reached.add_if(place > falls, "31 behind a falling period");
+        reached.add_if(place < falls, "31 in front of a falling period");
+    }
 }
 
 fn note_33(word: &str, numbers: &[u128], reached: &mut Reached) {
@@ -234,6 +262,7 @@ pub fn asked() -> Vec<String> {
         all.push(format!("{word} length 2000"));
         all.push(format!("{word} 35: length 2001"));
     }
+    all.extend(asked_places());
     all.extend((1..=34).map(|place| format!("bad field {place}")));
     for row in [31, 33, 35] {
         all.push(format!("above 2^32 no {row}"));
@@ -242,7 +271,19 @@ pub fn asked() -> Vec<String> {
     all
 }
 
-const PLAIN: [&str; 37] = [
+/// Every place that 31 and 32 can give, the outermost of them by every word, and one task out
+/// of range behind another.
+fn asked_places() -> Vec<String> {
+    let mut all: Vec<String> = (1..=16).map(|place| format!("no 31 {place}")).collect();
+    all.extend((2..=16).map(|place| format!("no 32 {place}")));
+    for word in ["demand", "check", "least", "best"] {
+        all.extend(["31 1", "31 16", "32 2", "32 16"].map(|row| format!("{word} no {row}")));
+    }
+    all.extend(REASONS.iter().flat_map(|first| REASONS.map(|later| first_and_later(first, later))));
+    all
+}
+
+const PLAIN: [&str; 39] = [
     "least no 34",
     "best no 34",
     "check ok 0",
@@ -265,6 +306,8 @@ const PLAIN: [&str; 37] = [
     "31: cost above the period",
     "31 before 32",
     "31 behind a falling period",
+    "31 in front of a falling period",
+    "32: the first of several",
     "33 before 35",
     "supply bad field: too many",
     "bad field behind the 34th",

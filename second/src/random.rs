@@ -1,5 +1,6 @@
 //! A small generator of numbers (splitmix64). One seed gives one run.
 
+#[derive(Clone)]
 pub struct Random {
     state: u64,
 }

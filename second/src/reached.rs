@@ -1,10 +1,11 @@
 //! Counts which cases a comparison has met.
 
-use std::collections::HashMap;
+use std::collections::{BTreeMap, HashMap};
 
 #[derive(Default)]
 pub struct Reached {
     counts: HashMap<String, u64>,
+    refusals: BTreeMap<u32, u64>,
 }
 
 impl Reached {
@@ -19,6 +20,18 @@ impl Reached {
         if met {
             self.add(case);
         }
+    }
+
+    /// Counts a refusal by its number.
+    pub fn add_refusal(&mut self, number: u32) {
+        *self.refusals.entry(number).or_default() += 1;
+    }
+
+    /// How often each number was given.
+    pub fn refusals(&self) -> String {
+        let told: Vec<String> =
+            self.refusals.iter().map(|(number, count)| format!("{number}: {count}")).collect();
+        format!("refusals by number: {}", told.join(", "))
     }
 
     pub fn count(&self, case: &str) -> u64 {

@@ -1,6 +1,5 @@
 //! Event records: bytes to a call and back.
 
-use crate::refusal::{refuse, Refusal};
 use crate::turns::{Call, Change, Description};
 
 pub const HEADER: usize = 3;
@@ -41,18 +40,19 @@ fn call(tag: u8, payload: &[u8]) -> Call {
     Call { time, change }
 }
 
-/// The record at the front and how many bytes it has.
-pub fn read(bytes: &[u8]) -> Result<(Call, usize), Refusal> {
+/// The record at the front and how many bytes it has, or the number that refuses it. The
+/// refusal's detail, where the record begins, is for whoever counts the input to add.
+pub fn read(bytes: &[u8]) -> Result<(Call, usize), u32> {
     if bytes.len() < HEADER {
-        return refuse(20);
+        return Err(20);
     }
     let tag = bytes[0];
-    let Some(length) = payload_length(tag) else { return refuse(21) };
+    let Some(length) = payload_length(tag) else { return Err(21) };
     if number(&bytes[1..HEADER]) != length as u64 {
-        return refuse(22);
+        return Err(22);
     }
     if bytes.len() < HEADER + length {
-        return refuse(20);
+        return Err(20);
     }
     Ok((call(tag, &bytes[HEADER..HEADER + length]), HEADER + length))
 }
@@ -93,7 +93,7 @@ mod tests {
     use super::*;
 
     fn refused(bytes: &[u8]) -> u32 {
-        read(bytes).unwrap_err().number
+        read(bytes).unwrap_err()
     }
 
     #[test]
@@ -128,7 +128,7 @@ mod tests {
             let call = Call { time: 0x0102_0304_0506_0708, change };
             let mut bytes = write(&call);
             let length = bytes.len();
-            assert_eq!(read(&bytes[..length - 1]), refuse(20));
+            assert_eq!(read(&bytes[..length - 1]), Err(20));
             bytes.extend([1, 2, 3]);
             assert_eq!(read(&bytes), Ok((call, length)));
         }

@@ -7,5 +7,9 @@ pub struct Refusal {
 }
 
 pub fn refuse<T>(number: u32) -> Result<T, Refusal> {
-    Err(Refusal { number, detail: 0 })
+    refuse_with(number, 0)
+}
+
+pub fn refuse_with<T>(number: u32, detail: u64) -> Result<T, Refusal> {
+    Err(Refusal { number, detail })
 }

@@ -1,7 +1,7 @@
-//! Shares: the section "Supply, demand, least share" and rows 30 to 35, read plainly.
+//! Shares: the section "Supply, demand, least share" and rows 30 to 35 with request 2, read plainly.
 //! The loops are the paper's own; nothing here is made fast.
 
-use crate::refusal::{refuse, Refusal};
+use crate::refusal::{refuse, refuse_with, Refusal};
 
 pub const MOST_TASKS: usize = 16;
 pub const LARGEST_PERIOD: u64 = 2000;
@@ -21,24 +21,25 @@ pub struct Tasks<'a> {
 }
 
 impl Tasks<'_> {
-    /// Rows 30, 31 and 32; 31 on all tasks before 32 on any.
+    /// Rows 30, 31 and 32; 31 on all tasks before 32 on any. The detail of 31 and 32 is the
+    /// first such task's place, counted from 1.
     fn validate(&self) -> Result<(), Refusal> {
         let n = self.periods.len();
         if n == 0 || n > MOST_TASKS || n != self.costs.len() {
             return refuse(30);
         }
-        for k in 0..n {
-            let (period, cost) = (self.periods[k], self.costs[k]);
-            if period < 1 || period > LARGEST_PERIOD || cost < 1 || cost > period {
-                return refuse(31);
-            }
+        if let Some(place) = (1..=n).find(|&place| self.is_out_of_range(place)) {
+            return refuse_with(31, place as u64);
         }
-        for k in 1..n {
-            if self.periods[k] < self.periods[k - 1] {
-                return refuse(32);
-            }
+        match (2..=n).find(|&place| self.periods[place - 1] < self.periods[place - 2]) {
+            Some(place) => refuse_with(32, place as u64),
+            None => Ok(()),
         }
-        Ok(())
+    }
+
+    fn is_out_of_range(&self, place: usize) -> bool {
+        let (period, cost) = (self.periods[place - 1], self.costs[place - 1]);
+        period < 1 || period > LARGEST_PERIOD || cost < 1 || cost > period
     }
 }
 
@@ -247,15 +248,54 @@ mod tests {
         }
     }
 
+    /// What all four say to a list, whatever row 33 or 35 would say to what stands beside it.
+    fn refused(list: &[(u64, u64)]) -> (u32, u64) {
+        let (periods, costs): (Vec<u64>, Vec<u64>) = list.iter().copied().unzip();
+        let tasks = Tasks { periods: &periods, costs: &costs };
+        let refusal = demand(tasks, 0, 9999).unwrap_err();
+        assert_eq!(check(tasks, 0, 0), Err(refusal));
+        assert_eq!(least(tasks, 0), Err(refusal));
+        assert_eq!(best(tasks, 0), Err(refusal));
+        (refusal.number, refusal.detail)
+    }
+
     #[test]
     fn row_31_on_all_tasks_before_32_on_any() {
-        let falling = Tasks { periods: &[5, 4, 6], costs: &[1, 1, 7] };
-        assert_eq!(number(least(falling, 0)), 31);
-        let falling = Tasks { periods: &[5, 4, 6], costs: &[1, 1, 6] };
-        assert_eq!(number(least(falling, 0)), 32);
-        for (period, cost) in [(0, 1), (2001, 1), (5, 0), (5, 6), (u64::MAX, u64::MAX)] {
-            let tasks = Tasks { periods: &[period], costs: &[cost] };
-            assert_eq!(number(best(tasks, 5)), 31);
+        assert_eq!(refused(&[(5, 1), (4, 1), (6, 7)]), (31, 3));
+        assert_eq!(refused(&[(5, 1), (0, 1), (6, 1), (4, 1)]), (31, 2));
+        assert_eq!(refused(&[(5, 1), (4, 1), (6, 6)]), (32, 2));
+    }
+
+    /// Out of range: the period on both sides, a cost of 0, a cost above the period.
+    const WRONG: [(u64, u64); 7] =
+        [(0, 0), (0, 1), (2001, 1), (9, 0), (9, 10), (2000, 2001), (u64::MAX, u64::MAX)];
+
+    #[test]
+    fn row_31_gives_the_first_such_place_counted_from_1() {
+        for (wrong, place) in WRONG.iter().flat_map(|wrong| (1..=MOST_TASKS).map(move |place| (wrong, place)))
+        {
+            let mut list = [(9, 1); MOST_TASKS];
+            list[place - 1] = *wrong;
+            assert_eq!(refused(&list), (31, place as u64));
+            assert_eq!(refused(&list[..place]), (31, place as u64));
+            let with_later = |later| {
+                list[place..].fill(later);
+                refused(&list)
+            };
+            assert_eq!(WRONG.map(with_later), [(31, place as u64); WRONG.len()]);
+        }
+    }
+
+    /// The task whose period is below the one before, not the one before.
+    #[test]
+    fn row_32_gives_the_first_such_place_counted_from_1() {
+        for place in 2..=MOST_TASKS {
+            let mut list = [(9, 1); MOST_TASKS];
+            list[place - 1..].fill((8, 1));
+            assert_eq!(refused(&list), (32, place as u64));
+            assert_eq!(refused(&list[..place]), (32, place as u64));
+            list[MOST_TASKS - 1] = (7, 1);
+            assert_eq!(refused(&list), (32, place as u64));
         }
     }
 

@@ -305,7 +305,9 @@ mod tests {
             ("supply 18446744073709551620 3 7", "no 33 0"),
             ("supply 4 3 18446744073709551623", "no 35 0"),
             ("demand 18446744073709551618 5 5 1 10 3", "no 35 0"),
-            ("least 5 5 1 10 99999999999999999999999", "no 31 0"),
+            ("least 5 5 1 10 99999999999999999999999", "no 31 2"),
+            ("least 5 4294967301 1 10 3", "no 31 1"),
+            ("least 5 5 1 10 1 18446744073709551626 3", "no 31 3"),
         ];
         for (query, answer) in asked {
             assert_eq!(one(query), answer, "{query}");
@@ -322,6 +324,23 @@ mod tests {
         assert_eq!(one(&format!("check 5 1{} 5", " 5 1".repeat(16))), "no 30 0");
         assert_eq!(one(&format!("best 5{}", " 5 1".repeat(5000))), "no 30 0");
         assert_eq!(one(&format!("best 5{} x", " 5 1".repeat(5000))), "bad field 10002");
+    }
+
+    #[test]
+    fn rows_31_and_32_name_the_task() {
+        let asked = [
+            ("demand 0 0 5 1 10 0", "no 31 2"),
+            ("check 0 0 0 1 10 3", "no 31 1"),
+            ("least 0 5 1 4 5 3 3", "no 31 2"),
+            ("best 0 5 1 4 3 3 3", "no 32 2"),
+            ("best 0 5 1 5 3 3 3 2 1", "no 32 3"),
+            ("best 0 5 1 4 3 2001 3", "no 31 3"),
+        ];
+        for (query, answer) in asked {
+            assert_eq!(one(query), answer, "{query}");
+        }
+        assert_eq!(one(&format!("best 5{} 5 6", " 5 1".repeat(15))), "no 31 16");
+        assert_eq!(one(&format!("best 5{} 4 1", " 5 1".repeat(15))), "no 32 16");
     }
 
     #[test]

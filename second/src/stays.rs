@@ -24,6 +24,9 @@ pub struct Counts {
     /// Lines at which no more urgent one could have run.
     pub choices: u64,
     pub timers: u64,
+    /// Bad records, and admits whose terms are refused.
+    pub stops: u64,
+    pub terms: u64,
     pub ticks: u64,
     pub folds: u64,
     pub cuts: u64,

@@ -1,9 +1,9 @@
-//! Turns: the section "What a call does" of the scope paper with request 1, read plainly. A
+//! Turns: the section "What a call does" of the scope paper with requests 1 and 2, read plainly. A
 //! VCPU keeps what it used and since when it is runnable; what is pending or usable at a
 //! moment is counted from that, so that the step "Return", refills included, is the passing
 //! of time and needs no code.
 
-use crate::refusal::{refuse, Refusal};
+use crate::refusal::{refuse, refuse_with, Refusal};
 use std::collections::BTreeMap;
 
 pub const LARGEST_TIME: u64 = 1_000_000_000_000;
@@ -300,12 +300,12 @@ impl Core {
             return refuse(2);
         }
         match self.timer {
-            Some(timer) if time > timer => Err(Refusal { number: 3, detail: timer }),
+            Some(timer) if time > timer => refuse_with(3, timer),
             _ => Ok(()),
         }
     }
 
-    /// Rows 4 to 8, with 10 behind 5.
+    /// Rows 4 to 8, with 11, 12 and 10 behind 5.
     fn validate_change(&self, change: &Change) -> Result<(), Refusal> {
         match change {
             Change::Tick => Ok(()),
@@ -327,8 +327,14 @@ impl Core {
         if identifier > LARGEST_IDENTIFIER {
             return refuse(4);
         }
-        if period < 1 || period > LARGEST_PERIOD || capacity < 1 || capacity > period {
+        if !(1..=LARGEST_PERIOD).contains(&period) {
             return refuse(5);
+        }
+        if capacity == 0 {
+            return refuse(11);
+        }
+        if capacity > period {
+            return refuse(12);
         }
         if Vcpu::new(*description, self.last).is_none() {
             return refuse(10);
@@ -405,6 +411,7 @@ impl Core {
 #[cfg(test)]
 mod tests {
     use super::*;
+    use crate::row_cases::TERMS;
 
     fn admit(time: u64, identifier: u32, period: u32, capacity: u32, priority: u8) -> Call {
         of_kind(0, admit_terms(identifier, period, capacity, priority), time)
@@ -541,12 +548,25 @@ mod tests {
         assert_eq!(number(&core, wake(9, u32::MAX)), (3, 8));
         assert_eq!(number(&core, wake(8, u32::MAX)), (4, 0));
         assert_eq!(number(&core, admit(8, 1 << 24, 0, 0, 0)), (4, 0));
-        for (period, capacity) in [(0, 0), (0, 1), (5, 0), (5, 6), (1_000_001, 1), (u32::MAX, u32::MAX)] {
-            assert_eq!(number(&core, admit(8, 1, period, capacity, 0)), (5, 0));
-        }
         assert_eq!(number(&core, admit(8, 1, 5, 5, 0)), (6, 0));
         assert_eq!(number(&core, block(8, 65537)), (7, 0));
         assert_eq!(number(&core, remove(8, 2)), (7, 0));
+    }
+
+    /// Request 2: 5 for the period alone, 11 for no capacity, 12 for one above the period,
+    /// for an identifier on the card or not; row 4 stands before them.
+    #[test]
+    fn a_period_or_a_capacity_out_of_range_has_its_own_row() {
+        let core = core(&[admit(5, 1, 10, 3, 2)]);
+        let inner = [(256, 0, 11), (255, 256, 12), (256, 65_536, 12), (65_537, 65_536, 0)];
+        for (period, capacity, row) in TERMS.into_iter().chain(inner) {
+            let number = |identifier| match core.clone().call(&admit(8, identifier, period, capacity, 0)) {
+                Err(Refusal { number, detail: 0 }) => number,
+                answer => u32::from(answer.is_err()),
+            };
+            let on_card = if row == 0 { 6 } else { row };
+            assert_eq!([1 << 24, 1, 2].map(number), [4, on_card, row], "{period} {capacity}");
+        }
     }
 
     #[test]
@@ -557,6 +577,9 @@ mod tests {
         }
         assert_eq!(number(&core, admit(0, 32, 10, 1, 0)), (8, 0));
         assert_eq!(number(&core, admit(0, 31, 10, 1, 0)), (6, 0));
+        let terms_of = |identifier| [(0, 1), (10, 0), (10, 11)].map(|(t, c)| admit(0, identifier, t, c, 0));
+        let refused = |identifier| terms_of(identifier).map(|call| number(&core, call));
+        assert_eq!([31, 32].map(refused), [[(5, 0), (11, 0), (12, 0)]; 2]);
         core.call(&remove(0, 3)).unwrap();
         core.call(&admit(0, 32, 10, 1, 0)).unwrap();
     }
@@ -668,14 +691,16 @@ mod tests {
         }
     }
 
-    /// 10 stands behind 4 and 5 and before 6 and 8.
+    /// 10 stands behind 4, 5, 11 and 12 and before 6 and 8.
     #[test]
     fn an_unknown_kind_has_its_place_among_the_rows() {
         let mut core = core(&[admit(0, 1, 10, 3, 0)]);
         for kind in [3, 128, 255] {
             let row = |core: &Core, description| number(core, of_kind(kind, description, 0));
             assert_eq!(row(&core, admit_terms(1 << 24, 10, 3, 0)), (4, 0));
-            assert_eq!(row(&core, admit_terms(1, 10, 0, 0)), (5, 0));
+            assert_eq!(row(&core, admit_terms(1, 0, 3, 0)), (5, 0));
+            assert_eq!(row(&core, admit_terms(1, 10, 0, 0)), (11, 0));
+            assert_eq!(row(&core, admit_terms(1, 10, 11, 0)), (12, 0));
             assert_eq!(row(&core, admit_terms(1, 10, 3, 0)), (10, 0));
             assert_eq!(row(&core, admit_terms(2, 10, 3, 0)), (10, 0));
         }

@@ -119,5 +119,70 @@ fn a_card_that_lets_a_refilled_tenant_have_the_whole_period_is_seen_from_outside
 #[test]
 fn a_card_that_admits_an_unknown_kind_is_seen_from_outside() {
     let fault = seen_from_outside("s/kind (3|255)$/kind 1/").unwrap_err();
-    assert!(fault.contains("is admitted with the kind"), "{fault}");
+    assert!(fault.contains("meant is no 10 0"), "{fault}");
+}
+
+/// What a command says to the second program's own answers, changed so.
+fn answered_otherwise(words: &[&str], command: &str, edit: &str) -> Result<String, String> {
+    said(words, "answers_otherwise", &[("COMMAND", command), ("EDIT", edit)])
+}
+
+const ON_CARD: [&str; 5] = ["compare-card", "--records", "20000", "--wait", ENOUGH];
+
+/// 5 as it was before request 2, 11 and 12 for each other, and no offset or another one.
+#[test]
+fn a_card_with_another_number_or_detail_is_seen() {
+    let edits = [
+        ("s/^no 1[12] 0/no 5 0/", "second:  no 1"),
+        ("s/^no 11 0/no 12 0/", "second:  no 11 0"),
+        ("s/^no 12 0/no 11 0/", "second:  no 12 0"),
+        ("s/^no 5 0/no 12 0/", "second:  no 5 0"),
+        ("s/^no 20 .*/no 20 0/", "second:  no 20 "),
+        ("s/^no 21 .*/no 21 0/", "second:  no 21 "),
+        ("s/^no 22 .*/no 22 0/", "second:  no 22 "),
+        ("s/^no 20 256$/no 20 0/", "second:  no 20 256"),
+        ("s/^no 22 65536$/no 22 0/", "second:  no 22 65536"),
+        ("s/^no 21 200000$/no 21 3392/", "second:  no 21 200000"),
+    ];
+    for (edit, what) in edits {
+        let fault = answered_otherwise(&ON_CARD, "card", edit).unwrap_err();
+        assert!(fault.contains(what), "{edit}: {fault}");
+    }
+}
+
+#[test]
+fn a_sizing_with_another_place_is_seen() {
+    let edits = [
+        ("s/^no 31 .*/no 31 0/", "second:  no 31 "),
+        ("s/^no 32 .*/no 32 0/", "second:  no 32 "),
+        ("s/^no 31 16$/no 31 15/", "second:  no 31 16"),
+        ("s/^no 32 2$/no 32 1/", "second:  no 32 2"),
+    ];
+    for (edit, what) in edits {
+        let fault = answered_otherwise(&["compare-sizing"], "sizing", edit).unwrap_err();
+        assert!(fault.contains(what), "{edit}: {fault}");
+    }
+}
+
+#[test]
+fn answers_that_are_not_changed_agree() {
+    for (words, command) in [(&ON_CARD[..], "card"), (&["compare-sizing"], "sizing")] {
+        let said = answered_otherwise(words, command, "").unwrap();
+        assert!(said.contains("agree"), "{said}");
+    }
+}
+
+#[test]
+fn a_card_that_tells_a_refusal_otherwise_is_seen_from_outside() {
+    let edits = [
+        ("s/^no 20 .*/no 20 0/", "meant is no 20 "),
+        ("s/^no 21 .*/no 21 0/", "meant is no 21 "),
+        ("s/^no 22 .*/no 22 0/", "meant is no 22 "),
+        ("s/^no 11 0/no 5 0/", "meant is no 11 0"),
+        ("s/^no 12 0/no 5 0/", "meant is no 12 0"),
+    ];
+    for (edit, what) in edits {
+        let fault = answered_otherwise(&["outside", "--runs", "400"], "card", edit).unwrap_err();
+        assert!(fault.contains(what), "{edit}: {fault}");
+    }
 }

@@ -15,6 +15,7 @@ use Rattle.io.specs.Counts.{clamped}
 use Rattle.rules.proofs.Tests.{clash}
 use Rattle.turns.specs.declared.Core.{Core}
 use Rattle.records.specs.Bytes.{AreBytes}
+use Rattle.lines.specs.Serve.{noRefusal}
 use Rattle.card.specs.declared.Standing.the-variants.{ReadFailed, WriteFailed}
 use Rattle.card.specs.declared.Round.{Round}
 use Rattle.card.specs.Program.{servedPart, toServe, roundOf, lastBytes}
@@ -58,7 +59,7 @@ count-is input held got lent n same e =
 module _ (core : Core) (offset : ℕ) (input : List ℕ) (held : ℕ) where
   pub round-failed : (got : ℤ) → held ≤ length input → ltZ got (pos 0) ≡ true
       → (take held input ≡ lastBytes held (toServe input held got))
-      × (record { core = core; offset = offset; held = held; standing = ReadFailed } ≡ roundOf core offset input held got)
+      × (record { core = core; offset = offset; held = held; standing = ReadFailed; refusal = noRefusal } ≡ roundOf core offset input held got)
   round-failed (pos k) low h = absurd (omega (arith, ltb-true k 0 h))
   round-failed (negsuc k) low h =
       let e : held + 0 ≡ held = omega arith in

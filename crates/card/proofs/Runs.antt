@@ -7,6 +7,7 @@ use mathlib.Core.List.{List, [], _∷_, _++_}
 use mathlib.Core.Logic.{_⊎_, inl, inr}
 use mathlib.Core.Option.{none}
 use native.Mathlib.Omega.{arith}
+use native.Mathlib.Nat.{zero-add}
 use lib.Dec.{leb, eqb}
 use lib.IntN.{ℤ, pos, negsuc}
 use lib.ListN.{length, take, drop, length-append, length-drop}
@@ -17,7 +18,7 @@ use Rattle.libc.specs.Io.{Moved}
 use Rattle.turns.specs.declared.Core.{Core}
 use Rattle.turns.specs.State.{made}
 use Rattle.records.specs.Bytes.{AreBytes}
-use Rattle.lines.specs.Serve.{Run, serveOf}
+use Rattle.lines.specs.Serve.{Run, noRefusal, serveOf}
 use Rattle.lines.proofs.Served.{serve-end}
 use Rattle.lines.proofs.Rest.{left-few, rest-left, used-within, further, cut-goes-on}
 use Rattle.card.specs.declared.Standing.{Standing}
@@ -50,29 +51,29 @@ goes-when false false offset h = go (leb mostBytes offset) refl h
 
 -- the round r is what serving the bytes s in one piece gives, where more will come
 pub record SoFar (s : List ℕ) (r : Round) : Type 0 where
-  pub core-is : serveOf (made []) s false none .core ≡ r .core
-  pub used-is : serveOf (made []) s false none .used ≡ r .offset
-  pub goes : serveOf (made []) s false none .stopped ≡ false
+  pub core-is : serveOf (made []) 0 s false none .core ≡ r .core
+  pub used-is : serveOf (made []) 0 s false none .used ≡ r .offset
+  pub goes : serveOf (made []) 0 s false none .stopped ≡ false
   pub size-is : r .offset + r .held ≡ length s
   pub few : r .offset < mostBytes
 
 after-goes : (got : ℤ) (s : List ℕ) (before : Round) → afterRead got s before .standing ≡ GoesOn → SoFar s (afterRead got s before)
 after-goes (negsuc k) s before h = absurd (omega (arith, ap number h))
 after-goes (pos k) s before h =
-    let run : Run = serveOf (made []) s (eqb k 0) none in
+    let run : Run = serveOf (made []) 0 s (eqb k 0) none in
     let w = goes-when (run .stopped) (eqb k 0) (0 + run .used) h in
-    let same : serveOf (made []) s false none ≡ run = ap (λ (t : Bool). serveOf (made []) s t none) (sym (w .1)) in
+    let same : serveOf (made []) 0 s false none ≡ run = ap (λ (t : Bool). serveOf (made []) 0 s t none) (sym (w .1)) in
     record {
       core-is = ap (λ (x : Run). x .core) same;
       used-is = omega (arith, ap (λ (x : Run). x .used) same);
       goes = ap (λ (x : Run). x .stopped) same ∙ w .0;
-      size-is = omega (arith, used-within (made []) s (eqb k 0) none);
+      size-is = omega (arith, used-within (made []) 0 s (eqb k 0) none);
       few = w .2;
     }
 
 pub so-far : (reads : List Read) → afterReads reads .standing ≡ GoesOn → SoFar (came reads) (afterReads reads)
 so-far [] h =
-    let e = serve-end (made []) [] false none refl in
+    let e = serve-end (made []) 0 [] false none refl in
     record {
       core-is = ap (λ (x : Run). x .core) e;
       used-is = ap (λ (x : Run). x .used) e;
@@ -89,8 +90,8 @@ held-few s r f =
       arith,
       f .size-is,
       f .used-is,
-      left-few false (drop (serveOf (made []) s false none .used) s) (rest-left (made []) s false (f .goes)),
-      length-drop (serveOf (made []) s false none .used) s,
+      left-few false (drop (serveOf (made []) 0 s false none .used) s) (rest-left (made []) 0 s false (f .goes)),
+      length-drop (serveOf (made []) 0 s false none .used) s,
     )
 
 -- the bytes s have come, those behind the ones used stand in front of `input`, and a read answered `got`
@@ -106,21 +107,22 @@ module _ (s : List ℕ) (r : Round) (f : SoFar s r) (input : List ℕ) (waits : 
 
   -- serving what waits with the new bytes goes on from what was served before
   next-run : (got : ℤ) (last : Bool)
-      → serveOf (made []) (s ++ new got) last none
-      ≡ further (serveOf (made []) s false none) (serveOf (r .core) (drop (r .offset) s ++ new got) last none)
+      → serveOf (made []) 0 (s ++ new got) last none
+      ≡ further (serveOf (made []) 0 s false none) (serveOf (r .core) (r .offset) (drop (r .offset) s ++ new got) last none)
   next-run got last =
-      let first : Run = serveOf (made []) s false none in
-      cut-goes-on (made []) s (new got) last (f .goes)
-      ∙ ap (λ (c : Core). further first (serveOf c (drop (first .used) s ++ new got) last none)) (f .core-is)
-      ∙ ap (λ (n : ℕ). further first (serveOf (r .core) (drop n s ++ new got) last none)) (f .used-is)
+      let first : Run = serveOf (made []) 0 s false none in
+      cut-goes-on (made []) 0 s (new got) last (f .goes)
+      ∙ ap (λ (n : ℕ). further first (serveOf (first .core) n (drop (first .used) s ++ new got) last none)) (zero-add (first .used))
+      ∙ ap (λ (c : Core). further first (serveOf c (first .used) (drop (first .used) s ++ new got) last none)) (f .core-is)
+      ∙ ap (λ (n : ℕ). further first (serveOf (r .core) n (drop n s ++ new got) last none)) (f .used-is)
 
   pub next-round : (got : ℤ) → roundOf (r .core) (r .offset) input (r .held) got ≡ afterRead got (s ++ new got) r
   next-round (negsuc k) = refl
   next-round (pos k) =
       let last : Bool = eqb k 0 in
       let part : List ℕ = drop (r .offset) s ++ new (pos k) in
-      let next : Run = serveOf (r .core) part last none in
-      let all : Run = serveOf (made []) (s ++ new (pos k)) last none in
+      let next : Run = serveOf (r .core) (r .offset) part last none in
+      let all : Run = serveOf (made []) 0 (s ++ new (pos k)) last none in
       let e = next-run (pos k) last in
       let used-is : r .offset + next .used ≡ 0 + all .used = omega (arith, f .used-is, ap (λ (x : Run). x .used) e) in
       let held-is : length part - next .used ≡ length (s ++ new (pos k)) - all .used =
@@ -135,7 +137,7 @@ module _ (s : List ℕ) (r : Round) (f : SoFar s r) (input : List ℕ) (waits : 
       ap (λ (l : List ℕ). servedPart (r .core) (r .offset) l last) (serves (pos k))
       ∙ round-same (ap (λ (x : Run). x .core) (sym e)) used-is held-is
       (ap (λ (t : Bool). standing true t last (r .offset + next .used)) (ap (λ (x : Run). x .stopped) (sym e))
-      ∙ ap (standing true (all .stopped) last) used-is)
+      ∙ ap (standing true (all .stopped) last) used-is) (ap (λ (x : Run). x .refusal) (sym e))
 
   -- and what waits then is the rest of all that came
   pub next-waits : (got : ℤ) (h offset : ℕ) → r .offset ≤ offset → offset + h ≡ length (s ++ new got)
@@ -153,7 +155,7 @@ module _ (s : List ℕ) (r : Round) (f : SoFar s r) (input : List ℕ) (waits : 
   pub next-more : (got : ℤ) → r .held < length input → afterRead got (s ++ new got) r .standing ≡ GoesOn → length s < length (s ++ new got)
   next-more (negsuc k) low h = absurd (omega (arith, ap number h))
   next-more (pos k) low h =
-      let all : Run = serveOf (made []) (s ++ new (pos k)) (eqb k 0) none in
+      let all : Run = serveOf (made []) 0 (s ++ new (pos k)) (eqb k 0) none in
       let w = goes-when (all .stopped) (eqb k 0) (0 + all .used) h in
       let part : List ℕ = drop (r .held) input in
       omega (
@@ -177,9 +179,9 @@ pub record Under (r : Round) (input : List ℕ) : Type 0 where
   pub waits : take (r .held) input ≡ drop (r .offset) (came reads)
 
 pub under-start : (core : Core) (input : List ℕ) → core ≡ made []
-    → Under (record { core = core; offset = 0; held = 0; standing = GoesOn }) input
+    → Under (record { core = core; offset = 0; held = 0; standing = GoesOn; refusal = noRefusal }) input
 under-start core input e =
-    record { reads = []; each-goes-on = tt; round-is = round-same e refl refl refl; goes = refl; waits = refl }
+    record { reads = []; each-goes-on = tt; round-is = round-same e refl refl refl refl; goes = refl; waits = refl }
 
 pub under-so-far : (r : Round) (input : List ℕ) (u : Under r input) → SoFar (came (u .reads)) r
 under-so-far r input u =

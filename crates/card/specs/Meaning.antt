@@ -4,14 +4,15 @@ use mathlib.Core.Path.{_≡_}
 use mathlib.Core.Bool.{Bool, true, false}
 use mathlib.Core.List.{List, [], _∷_, _++_}
 use mathlib.Core.Logic.{_⊎_}
-use mathlib.Core.Option.{none}
+use mathlib.Core.Option.{none, some}
 use lib.Dec.{eqb}
 use lib.IntN.{ℤ, pos, negsuc}
 use lib.ListN.{length}
 use Rattle.turns.specs.State.{made}
 use Rattle.records.specs.Bytes.{AreBytes}
+use Rattle.records.specs.Rows.{Detail}
 use Rattle.lines.specs.Serve.{Run, serveOf, cardLines}
-use Rattle.lines.specs.Asked.{asked}
+use Rattle.lines.specs.Asked.{asked, sent}
 use Rattle.lines.specs.Answers.{Answers}
 use Rattle.card.specs.declared.Standing.the-variants.{GoesOn, EndOfInput, Refused, ReadFailed, WriteFailed, ByteLimit}
 use Rattle.card.specs.declared.Round.{Round}
@@ -37,7 +38,7 @@ hasFailed (x ∷ before) = isBelow (x .got)
 
 -- all bytes that came, served in one piece from the core before any call
 abbrev pub whole : List Read → Run
-whole reads = serveOf (made []) (came reads) (atEnd reads) none
+whole reads = serveOf (made []) 0 (came reads) (atEnd reads) none
 
 pub record Meaning (r : Round) (reads : List Read) : Type 0 where
   -- a read that answers k brings k bytes
@@ -59,6 +60,11 @@ pub record Meaning (r : Round) (reads : List Read) : Type 0 where
   -- no read comes after a refusal, after the end of input, or after a read that failed
   pub no-more-reads : (later : List Read) (x : Read) (before : List Read) → reads ≡ later ++ (x ∷ before)
       → (whole before .stopped ≡ false) × (atEnd before ≡ false) × (hasFailed before ≡ false)
+  -- the bytes used are those of the records of the calls; where the program is refused it hands back the input's refusal, whose detail is
+  -- where the bad record begins: behind them
+  pub used-is : (r .standing ≡ WriteFailed → ⊥) → r .offset ≡ length (sent (asked (came reads) .calls))
+  pub refused-at : r .standing ≡ Refused
+      → (asked (came reads) .refusal ≡ some (r .refusal)) × Detail (r .offset) (r .refusal .detail)
   -- from bytes to demand 3: the calls of the records that came make the core, where the input ended or was refused the lines served are
   -- those of the whole input, and what is promised of an input and its calls holds of the bytes that came
   pub calls-made : (r .standing ≡ WriteFailed → ⊥) → r .core ≡ made (asked (came reads) .calls)

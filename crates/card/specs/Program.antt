@@ -14,7 +14,7 @@ use Rattle.libc.specs.Io.{Moved}
 use Rattle.turns.specs.declared.Core.{Core}
 use Rattle.turns.specs.State.{made}
 use Rattle.records.specs.Bytes.{AreBytes}
-use Rattle.lines.specs.Serve.{Run, serveOf}
+use Rattle.lines.specs.Serve.{Run, noRefusal, serveOf}
 use Rattle.card.specs.declared.Standing.{Standing}
 use Rattle.card.specs.declared.Standing.the-variants.{GoesOn, EndOfInput, Refused, ReadFailed, WriteFailed, ByteLimit}
 use Rattle.card.specs.declared.Round.{Round}
@@ -31,12 +31,13 @@ standing written stopped last offset =
 -- the bytes s, which begin at `offset`, are served; those of a record that is not whole yet are held
 abbrev pub servedPart : Core → ℕ → List ℕ → Bool → Round
 servedPart core offset s last =
-    let run : Run = serveOf core s last none in
+    let run : Run = serveOf core offset s last none in
     record {
       core = run .core;
       offset = offset + run .used;
       held = length s - run .used;
       standing = standing true (run .stopped) last (offset + run .used);
+      refusal = run .refusal;
     }
 
 -- a round serves the bytes held, and behind them as many as the read's answer says
@@ -46,7 +47,8 @@ toServe input held got = take (held + clamped got (length input - held)) input
 -- the answer 0 is the end of the input, and one below 0 a read that failed
 abbrev pub roundOf : Core → ℕ → List ℕ → ℕ → ℤ → Round
 roundOf core offset input held (pos k) = servedPart core offset (toServe input held (pos k)) (eqb k 0)
-roundOf core offset input held (negsuc k) = record { core = core; offset = offset; held = held; standing = ReadFailed }
+roundOf core offset input held (negsuc k) =
+    record { core = core; offset = offset; held = held; standing = ReadFailed; refusal = noRefusal }
 
 abbrev pub lastBytes : ℕ → List ℕ → List ℕ
 lastBytes n s = drop (length s - n) s
@@ -70,10 +72,11 @@ came (x ∷ before) = came before ++ brought x
 -- how a program stands after its reads: all bytes that came are served in one piece, from the core before any call
 abbrev pub afterRead : ℤ → List ℕ → Round → Round
 afterRead (pos k) s before = servedPart (made []) 0 s (eqb k 0)
-afterRead (negsuc k) s before = record { core = before .core; offset = before .offset; held = before .held; standing = ReadFailed }
+afterRead (negsuc k) s before =
+    record { core = before .core; offset = before .offset; held = before .held; standing = ReadFailed; refusal = noRefusal }
 
 abbrev pub afterReads : List Read → Round
-afterReads [] = record { core = made []; offset = 0; held = 0; standing = GoesOn }
+afterReads [] = record { core = made []; offset = 0; held = 0; standing = GoesOn; refusal = noRefusal }
 afterReads (x ∷ before) = afterRead (x .got) (came (x ∷ before)) (afterReads before)
 
 -- every read was made where the ones before it let the program go on

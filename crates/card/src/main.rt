@@ -5,6 +5,7 @@ use libc::STDIN_FILENO;
 use libc::STDOUT_FILENO;
 use lines::Served;
 use turns::Core;
+use turns::Refusal;
 ghost use Prim.Native.Nat.{_+_, _-_, _^_, _≤_, _<_};
 ghost use mathlib.Core.Path.{_≡_};
 ghost use mathlib.Core.List.{_++_};
@@ -31,13 +32,14 @@ enum Standing {
     ByteLimit,
 }
 
-// The core, the place of the first byte that waits for the rest of its record, how many wait, and how the program
-// stands.
+// The core, the place of the first byte that waits for the rest of its record, how many wait, how the program
+// stands, and, where it is refused, with which refusal.
 struct Round {
     core: Core,
     offset: u64,
     held: usize,
     standing: Standing,
+    refusal: Refusal,
 }
 
 // "After 20, 21 or 22 the program stops"; "At the end of input the program asks for no further record."
@@ -91,22 +93,28 @@ fn answered(core: Core, offset: u64, input: &[u8], end: usize, last: bool, out: 
         used: 0,
         written: 0,
         stopped: false,
+        refusal: Refusal {
+            number: 0,
+            detail: 0,
+        },
     };
     let mut used = 0;
     loop {
-        let place = offset + used as u64;
-        served = lines::serve(served.core, &input[used..end], place, last, out);
+        let begins = offset + used as u64;
+        served = lines::serve(served.core, &input[used..end], begins, last, out);
         used += served.used;
         let ok = is_written(&out[..served.written]);
         if !ok || served.stopped || served.used == 0 {
             let core = served.core;
             let offset = offset + used as u64;
             let held = end - used;
+            let refusal = served.refusal;
             return Round {
                 core,
                 offset,
                 held,
                 standing: standing_of(ok, served.stopped, last, offset),
+                refusal,
             };
         }
     }
@@ -133,6 +141,10 @@ fn one_round(
             offset,
             held,
             standing: Standing::ReadFailed,
+            refusal: Refusal {
+                number: 0,
+                detail: 0,
+            },
         };
     }
     let n = io::count(got, &input[held..]);
@@ -156,6 +168,10 @@ fn run() -> Round
         offset: 0,
         held: 0,
         standing: Standing::GoesOn,
+        refusal: Refusal {
+            number: 0,
+            detail: 0,
+        },
     };
     loop {
         let held = r.held;

@@ -10,7 +10,7 @@ use lib.ListN.{length}
 use Rattle.turns.specs.declared.Refusal.{Refusal}
 use Rattle.records.specs.declared.answers.Event.{Event}
 use Rattle.records.specs.declared.answers.Read.the-variants.{Event as Got, No}
-use Rattle.records.specs.Record.{waits}
+use Rattle.records.specs.Record.{told, waits}
 use Rattle.records.specs.Answer.{readSpec}
 use Rattle.records.specs.Encode.{sizeOf}
 use Rattle.records.proofs.Behind.{read-behind, read-waits}
@@ -21,26 +21,27 @@ unfolding sizeOf
 some-bytes e = omega arith
 
 -- an event is not changed by the bytes behind its record
-pub event-behind : (s t : List ℕ) (e : Event) → readSpec s ≡ Got e → readSpec (s ++ t) ≡ Got e
-event-behind s t e h = go (waits s) refl
+pub event-behind : (offset : ℕ) (s t : List ℕ) (e : Event) → readSpec offset s ≡ Got e → readSpec offset (s ++ t) ≡ Got e
+event-behind offset s t e h = go (waits s) refl
   where
-    go : (b : Bool) → waits s ≡ b → readSpec (s ++ t) ≡ Got e
-    go true w = let r = read-waits s w in let z : _≡_ {A = ℕ} 0 1 = cc in absurd (omega arith)
-    go false w = read-behind s t w ∙ h
+    go : (b : Bool) → waits s ≡ b → readSpec offset (s ++ t) ≡ Got e
+    go true w = let r = read-waits offset s w in let z : _≡_ {A = ℕ} 0 1 = cc in absurd (omega arith)
+    go false w = read-behind offset s t w ∙ h
 
 -- nor is a refusal other than 20 by the bytes behind its header
-pub refusal-behind : (s t : List ℕ) (r : Refusal) → readSpec s ≡ No r → eqb (r .number) 20 ≡ false → readSpec (s ++ t) ≡ No r
-refusal-behind s t r h n = go (waits s) refl
+pub refusal-behind : (offset : ℕ) (s t : List ℕ) (r : Refusal) → readSpec offset s ≡ No r → eqb (r .number) 20 ≡ false
+    → readSpec offset (s ++ t) ≡ No r
+refusal-behind offset s t r h n = go (waits s) refl
   where
-    go : (b : Bool) → waits s ≡ b → readSpec (s ++ t) ≡ No r
+    go : (b : Bool) → waits s ≡ b → readSpec offset (s ++ t) ≡ No r
     go true w =
-        let k = read-waits s w in
-        let e : r ≡ record { number = 20; detail = 0 } = cc in
+        let k = read-waits offset s w in
+        let e : r ≡ record { number = 20; detail = told offset } = cc in
         let z : eqb 20 20 ≡ false = ap (λ (q : Refusal). eqb (q .number) 20) (sym e) ∙ n in
         let x : _≡_ {A = Bool} true false = z in
         let y : _≡_ {A = ℕ} 0 1 = cc in
         absurd (omega arith)
-    go false w = read-behind s t w ∙ h
+    go false w = read-behind offset s t w ∙ h
 
-pub within : (s : List ℕ) (e : Event) → readSpec s ≡ Got e → sizeOf e ≤ length s
-within s e h = read-size s e h .1
+pub within : (offset : ℕ) (s : List ℕ) (e : Event) → readSpec offset s ≡ Got e → sizeOf e ≤ length s
+within offset s e h = read-size offset s e h .1

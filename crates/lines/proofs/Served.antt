@@ -24,95 +24,99 @@ use Rattle.records.specs.Encode.{sizeOf}
 use Rattle.lines.specs.declared.serving.Served.{Served}
 use Rattle.text.specs.Text.{over, Put}
 use Rattle.lines.specs.Text.{lineOf, refusalText, longest}
-use Rattle.lines.specs.Serve.{Run, timeOf, changeOf, rests, stops, waitsFor, refuses, behind, full, less}
+use Rattle.lines.specs.Serve.{Run, noRefusal, timeOf, changeOf, rests, stops, waitsFor, refuses, behind, full, less}
 use Rattle.lines.specs.Serve.{answers, served, serveOf, handed}
 use Rattle.text.proofs.Writing.{sets-append, put-size}
 use Rattle.lines.proofs.Reading.{some-bytes, within}
 
 -- where nothing is left, or no room, nothing more is answered
-served-rests : (k : ℕ) (core : Core) (s : List ℕ) (last : Bool) (room : Option ℕ) → (eqb (length s) 0 || full room) ≡ true
-    → served k core s last room ≡ rests core
+served-rests : (k : ℕ) (core : Core) (offset : ℕ) (s : List ℕ) (last : Bool) (room : Option ℕ)
+    → (eqb (length s) 0 || full room) ≡ true → served k core offset s last room ≡ rests core
 unfolding served
-served-rests zero core s last room h = refl
-served-rests (suc k) core s last room h = rw h
+served-rests zero core offset s last room h = refl
+served-rests (suc k) core offset s last room h = rw h
 
-served-reads : (k : ℕ) (core : Core) (s : List ℕ) (last : Bool) (room : Option ℕ) → (eqb (length s) 0 || full room) ≡ false
-    → served (suc k) core s last room ≡ answers (λ core′ s′ room′. served k core′ s′ last room′) core s last room (readSpec s)
+served-reads : (k : ℕ) (core : Core) (offset : ℕ) (s : List ℕ) (last : Bool) (room : Option ℕ)
+    → (eqb (length s) 0 || full room) ≡ false
+    → served (suc k) core offset s last room ≡ answers (served k) core offset s last room (readSpec offset s)
 unfolding served
-served-reads k core s last room h = rw h
+served-reads k core offset s last room h = rw h
 
 -- more fuel than bytes changes nothing
-fuel : (k j : ℕ) (core : Core) (s : List ℕ) (last : Bool) (room : Option ℕ) → length s ≤ k → length s ≤ j
-    → served k core s last room ≡ served j core s last room
-fuel zero j core s last room h g =
+fuel : (k j : ℕ) (core : Core) (offset : ℕ) (s : List ℕ) (last : Bool) (room : Option ℕ) → length s ≤ k → length s ≤ j
+    → served k core offset s last room ≡ served j core offset s last room
+fuel zero j core offset s last room h g =
     let e : (eqb (length s) 0 || full room) ≡ true = rw (eq-eqb (length s) 0 (omega arith)) in
-    served-rests zero core s last room e ∙ sym (served-rests j core s last room e)
-fuel (suc k) zero core s last room h g =
+    served-rests zero core offset s last room e ∙ sym (served-rests j core offset s last room e)
+fuel (suc k) zero core offset s last room h g =
     let e : (eqb (length s) 0 || full room) ≡ true = rw (eq-eqb (length s) 0 (omega arith)) in
-    served-rests (suc k) core s last room e ∙ sym (served-rests zero core s last room e)
-fuel (suc k) (suc j) core s last room h g =
-    go (eqb (length s) 0 || full room) refl (readSpec s)
-    (λ e. fuel k j (turned core (timeOf e) (changeOf e) .core) (drop (sizeOf e) s) last
+    served-rests (suc k) core offset s last room e ∙ sym (served-rests zero core offset s last room e)
+fuel (suc k) (suc j) core offset s last room h g =
+    go (eqb (length s) 0 || full room) refl (readSpec offset s)
+    (λ e. fuel k j (turned core (timeOf e) (changeOf e) .core) (offset + sizeOf e) (drop (sizeOf e) s) last
     (less room (length (lineOf (turned core (timeOf e) (changeOf e) .reply))))
     (omega (arith, some-bytes e, length-drop (sizeOf e) s)) (omega (arith, some-bytes e, length-drop (sizeOf e) s)))
   where
     go : (t : Bool) → (eqb (length s) 0 || full room) ≡ t → (r : Read)
         → ((e : Event) →
-        served k (turned core (timeOf e) (changeOf e) .core) (drop (sizeOf e) s) last
+        served k (turned core (timeOf e) (changeOf e) .core) (offset + sizeOf e) (drop (sizeOf e) s) last
         (less room (length (lineOf (turned core (timeOf e) (changeOf e) .reply))))
-        ≡ served j (turned core (timeOf e) (changeOf e) .core) (drop (sizeOf e) s) last
+        ≡ served j (turned core (timeOf e) (changeOf e) .core) (offset + sizeOf e) (drop (sizeOf e) s) last
         (less room (length (lineOf (turned core (timeOf e) (changeOf e) .reply)))))
-        → served (suc k) core s last room ≡ served (suc j) core s last room
-    go true t r ih = served-rests (suc k) core s last room t ∙ sym (served-rests (suc j) core s last room t)
+        → served (suc k) core offset s last room ≡ served (suc j) core offset s last room
+    go true t r ih = served-rests (suc k) core offset s last room t ∙ sym (served-rests (suc j) core offset s last room t)
     go false t r ih =
-        served-reads k core s last room t ∙ each (readSpec s) ∙ sym (served-reads j core s last room t)
+        served-reads k core offset s last room t ∙ each (readSpec offset s) ∙ sym (served-reads j core offset s last room t)
       where
-        each : (r : Read) → answers (λ core′ s′ room′. served k core′ s′ last room′) core s last room r
-            ≡ answers (λ core′ s′ room′. served j core′ s′ last room′) core s last room r
+        each : (r : Read) → answers (served k) core offset s last room r
+            ≡ answers (served j) core offset s last room r
         each (Got e) = ap (behind (sizeOf e) (lineOf (turned core (timeOf e) (changeOf e) .reply))) (ih e)
         each (No r) = refl
 
 -- the cases of serving
-module _ (core : Core) (s : List ℕ) (last : Bool) (room : Option ℕ) where
-  pub serve-end : length s ≡ 0 → serveOf core s last room ≡ rests core
+module _ (core : Core) (offset : ℕ) (s : List ℕ) (last : Bool) (room : Option ℕ) where
+  pub serve-end : length s ≡ 0 → serveOf core offset s last room ≡ rests core
   unfolding serveOf
-  serve-end h = served-rests (length s) core s last room (rw (eq-eqb (length s) 0 h))
+  serve-end h = served-rests (length s) core offset s last room (rw (eq-eqb (length s) 0 h))
 
   or-true : (a b : Bool) → b ≡ true → (a || b) ≡ true
   or-true true b h = refl
   or-true false b h = h
 
-  pub serve-full : full room ≡ true → serveOf core s last room ≡ rests core
+  pub serve-full : full room ≡ true → serveOf core offset s last room ≡ rests core
   unfolding serveOf
-  serve-full h = served-rests (length s) core s last room (or-true (eqb (length s) 0) (full room) h)
+  serve-full h = served-rests (length s) core offset s last room (or-true (eqb (length s) 0) (full room) h)
 
   serve-reads : 1 ≤ length s → full room ≡ false
-      → serveOf core s last room ≡ answers (λ core′ s′ room′. served (length s) core′ s′ last room′) core s last room (readSpec s)
+      → serveOf core offset s last room ≡ answers (served (length s)) core offset s last room (readSpec offset s)
   unfolding serveOf
   serve-reads some-left some-room =
       let e : (eqb (length s) 0 || full room) ≡ false = rw (ne-eqb (length s) 0 (λ z. absurd (omega arith))) some-room in
-      fuel (length s) (suc (length s)) core s last room (omega arith) (omega arith) ∙ served-reads (length s) core s last room e
+      fuel (length s) (suc (length s)) core offset s last room (omega arith) (omega arith)
+      ∙ served-reads (length s) core offset s last room e
 
-  pub serve-no : (r : Refusal) → 1 ≤ length s → full room ≡ false → readSpec s ≡ No r → serveOf core s last room ≡ refuses core last r
+  pub serve-no : (r : Refusal) → 1 ≤ length s → full room ≡ false → readSpec offset s ≡ No r
+      → serveOf core offset s last room ≡ refuses core last r
   serve-no r some-left some-room h =
       serve-reads some-left some-room
-      ∙ ap (answers (λ core′ s′ room′. served (length s) core′ s′ last room′) core s last room) h
+      ∙ ap (answers (served (length s)) core offset s last room) h
 
-  pub serve-event : (e : Event) (a : Answer) → 1 ≤ length s → full room ≡ false → readSpec s ≡ Got e
+  pub serve-event : (e : Event) (a : Answer) → 1 ≤ length s → full room ≡ false → readSpec offset s ≡ Got e
       → a ≡ turned core (timeOf e) (changeOf e)
-      → serveOf core s last room
-      ≡ behind (sizeOf e) (lineOf (a .reply)) (serveOf (a .core) (drop (sizeOf e) s) last (less room (length (lineOf (a .reply)))))
+      → serveOf core offset s last room
+      ≡ behind (sizeOf e) (lineOf (a .reply))
+      (serveOf (a .core) (offset + sizeOf e) (drop (sizeOf e) s) last (less room (length (lineOf (a .reply)))))
   unfolding serveOf
   serve-event e a some-left some-room h t =
       serve-reads some-left some-room
-      ∙ ap (answers (λ core′ s′ room′. served (length s) core′ s′ last room′) core s last room) h
+      ∙ ap (answers (served (length s)) core offset s last room) h
       ∙ ap (λ (b : Answer).
       behind (sizeOf e) (lineOf (b .reply))
-      (served (length s) (b .core) (drop (sizeOf e) s) last (less room (length (lineOf (b .reply))))))
+      (served (length s) (b .core) (offset + sizeOf e) (drop (sizeOf e) s) last (less room (length (lineOf (b .reply))))))
       (sym t)
       ∙ ap (behind (sizeOf e) (lineOf (a .reply)))
-      (fuel (length s) (length (drop (sizeOf e) s)) (a .core) (drop (sizeOf e) s) last (less room (length (lineOf (a .reply))))
-      (omega (arith, length-drop (sizeOf e) s)) (omega arith))
+      (fuel (length s) (length (drop (sizeOf e) s)) (a .core) (offset + sizeOf e) (drop (sizeOf e) s) last
+      (less room (length (lineOf (a .reply)))) (omega (arith, length-drop (sizeOf e) s)) (omega arith))
 
 -- what serving hands back and leaves behind it, from a place in the input and in the output on
 pub record Ending : Type 0 where
@@ -120,6 +124,7 @@ pub record Ending : Type 0 where
   pub used : ℕ
   pub written : ℕ
   pub stopped : Bool
+  pub refusal : Refusal
   pub out : List ℕ
 
 abbrev pub ending : Run → ℕ → ℕ → List ℕ → Ending
@@ -129,11 +134,12 @@ ending r used written out =
       used = used + r .used;
       written = written + length (r .lines);
       stopped = r .stopped;
+      refusal = r .refusal;
       out = sets out written (r .lines);
     }
 
 abbrev pub servedOf : Ending → Served
-servedOf e = record { core = e .core; used = e .used; written = e .written; stopped = e .stopped }
+servedOf e = record { core = e .core; used = e .used; written = e .written; stopped = e .stopped; refusal = e .refusal }
 
 -- a line that was put, and what comes behind it
 ending-behind : (r : Run) (n : ℕ) (line : List ℕ) (used written next : ℕ) (out after : List ℕ) → Put out written line after next
@@ -142,25 +148,28 @@ ending-behind r n line used written next out after p =
     rw (p .stored, p .behind, length-append, sets-append, add-assoc, add-assoc)
 
 -- what the loop of `serve` keeps
-pub record Going (input : List ℕ) (last : Bool) (first : Core) (before : List ℕ)
+pub record Going (input : List ℕ) (offset : ℕ) (last : Bool) (first : Core) (before : List ℕ)
     (core : Core) (used written : ℕ) (out : List ℕ) : Type 0 where
   pub valid : ValidCore core
   pub inside : used ≤ length input
   pub room : written ≤ length out
   pub size : length out ≡ length before
   pub same :
-      ending (serveOf core (drop used input) last (some (length out - written))) used written out
-      ≡ ending (serveOf first input last (some (length before))) 0 0 before
+      ending (serveOf core (offset + used) (drop used input) last (some (length out - written))) used written out
+      ≡ ending (serveOf first offset input last (some (length before))) 0 0 before
 
-pub going-start : (input : List ℕ) (last : Bool) (core : Core) (out : List ℕ) → ValidCore core → Going input last core out core 0 0 out
-going-start input last core out v =
+pub going-start : (input : List ℕ) (offset : ℕ) (last : Bool) (core : Core) (out : List ℕ) → ValidCore core
+    → Going input offset last core out core 0 0 out
+going-start input offset last core out v =
     let z : length out - 0 ≡ length out = omega arith in
     record {
       valid = v;
       inside = omega arith;
       room = omega arith;
       size = refl;
-      same = ap (λ (n : ℕ). ending (serveOf core input last (some n)) 0 0 out) z;
+      same =
+          ap (λ (n : ℕ). ending (serveOf core (offset + 0) input last (some n)) 0 0 out) z
+          ∙ ap (λ (n : ℕ). ending (serveOf core n input last (some (length out))) 0 0 out) (add-zero offset);
     }
 
 -- the whole, once nothing is left to be served
@@ -173,35 +182,39 @@ module _ (whole : Run) (before : List ℕ) where
         ap (λ (x : Ending). x .out) h ∙ sets-eq (whole .lines) before 0 (omega arith) ∙ rw zero-add,
       )
 
-module _ (input : List ℕ) (last : Bool) (first : Core) (before : List ℕ) (core : Core) (used written : ℕ) (out : List ℕ)
-    (g : Going input last first before core used written out) where
+module _ (input : List ℕ) (offset : ℕ) (last : Bool) (first : Core) (before : List ℕ) (core : Core) (used written : ℕ) (out : List ℕ)
+    (g : Going input offset last first before core used written out) where
   abbrev whole : Run
-  whole = serveOf first input last (some (length before))
+  whole = serveOf first offset input last (some (length before))
 
   abbrev left : Run
-  left = serveOf core (drop used input) last (some (length out - written))
+  left = serveOf core (offset + used) (drop used input) last (some (length out - written))
 
   -- a record was answered: its line was put, and the core is the turn's
   pub going-next : (e : Event) (a : Answer) (after : List ℕ) (next : ℕ) → used < length input → longest ≤ length out - written
-      → readSpec (drop used input) ≡ Got e → a ≡ turned core (timeOf e) (changeOf e) → ValidCore (a .core)
+      → readSpec (offset + used) (drop used input) ≡ Got e → a ≡ turned core (timeOf e) (changeOf e) → ValidCore (a .core)
       → Put out written (lineOf (a .reply)) after next → next ≤ written + longest
-      → Going input last first before (a .core) (used + sizeOf e) next after
+      → Going input offset last first before (a .core) (used + sizeOf e) next after
   going-next e a after next some-left some-room h t v p few =
       let size = put-size p in
       let d = length-drop used input in
-      let rest : length after - next ≡ length out - written - length (lineOf (a .reply)) = omega (arith, p .behind) in
+      let room : ℕ = length out - written - length (lineOf (a .reply)) in
+      let rest : length after - next ≡ room = omega (arith, p .behind) in
+      let behind-it : ℕ = used + sizeOf e in
+      let place : ℕ = offset + used + sizeOf e in
       record {
         valid = v;
-        inside = omega (arith, within (drop used input) e h);
+        inside = omega (arith, within (offset + used) (drop used input) e h);
         room = omega arith;
         size = size ∙ g .size;
         same =
-            ap (λ (n : ℕ). ending (serveOf (a .core) (drop (used + sizeOf e) input) last (some n)) (used + sizeOf e) next after) rest
-            ∙ ap (λ (s : List ℕ).
-            ending (serveOf (a .core) s last (some (length out - written - length (lineOf (a .reply))))) (used + sizeOf e) next after)
+            ap (λ (n : ℕ). ending (serveOf (a .core) n (drop behind-it input) last (some (length after - next))) behind-it next after)
+            (sym (add-assoc offset used (sizeOf e)))
+            ∙ ap (λ (n : ℕ). ending (serveOf (a .core) place (drop behind-it input) last (some n)) behind-it next after) rest
+            ∙ ap (λ (s : List ℕ). ending (serveOf (a .core) place s last (some room)) behind-it next after)
             (sym (drop-drop (sizeOf e) used input))
             ∙ ending-behind
-            (serveOf (a .core) (drop (sizeOf e) (drop used input)) last (some (length out - written - length (lineOf (a .reply)))))
+            (serveOf (a .core) place (drop (sizeOf e) (drop used input)) last (some room))
             (sizeOf e)
             (lineOf (a .reply))
             used
@@ -212,7 +225,7 @@ module _ (input : List ℕ) (last : Bool) (first : Core) (before : List ℕ) (co
             p
             ∙ ap (λ (r : Run). ending r used written out)
             (sym
-            (serve-event core (drop used input) last (some (length out - written)) e a (omega arith)
+            (serve-event core (offset + used) (drop used input) last (some (length out - written)) e a (omega arith)
             (le-ltb (length out - written) longest some-room) h t))
             ∙ g .same;
       }
@@ -222,37 +235,40 @@ module _ (input : List ℕ) (last : Bool) (first : Core) (before : List ℕ) (co
       ((r ≡ handed whole) × ValidCore (r .core))
       × ((after ≡ over (whole .lines) before) × ((r .used ≤ length input) × (r .written ≤ length before)))
 
-  rested : left ≡ rests core → Handed (record { core = core; used = used; written = written; stopped = false }) out
+  rested : left ≡ rests core → Handed (record { core = core; used = used; written = written; stopped = false; refusal = noRefusal }) out
   rested h =
-      let e : Ending = record { core = core; used = used; written = written; stopped = false; out = out } in
+      let e : Ending = record { core = core; used = used; written = written; stopped = false; refusal = noRefusal; out = out } in
       let z : e ≡ ending (rests core) used written out = rw (add-zero, add-zero) in
       let d = done whole before e (z ∙ ap (λ (r : Run). ending r used written out) (sym h) ∙ g .same) (omega (arith, g .size, g .room)) in
       ((d .0, g .valid), (d .1, (g .inside, omega (arith, g .size, g .room))))
 
   -- nothing is left
-  pub going-end : length input ≤ used → Handed (record { core = core; used = used; written = written; stopped = false }) out
-  going-end h = rested (serve-end core (drop used input) last (some (length out - written)) (omega (arith, length-drop used input)))
+  pub going-end : length input ≤ used → Handed (record { core = core; used = used; written = written; stopped = false; refusal = noRefusal }) out
+  going-end h =
+      rested (serve-end core (offset + used) (drop used input) last (some (length out - written)) (omega (arith, length-drop used input)))
 
   -- a longest line has no room
-  pub going-full : length out - written < longest → Handed (record { core = core; used = used; written = written; stopped = false }) out
-  going-full h = rested (serve-full core (drop used input) last (some (length out - written)) (lt-ltb (length out - written) longest h))
+  pub going-full : length out - written < longest → Handed (record { core = core; used = used; written = written; stopped = false; refusal = noRefusal }) out
+  going-full h =
+      rested
+      (serve-full core (offset + used) (drop used input) last (some (length out - written)) (lt-ltb (length out - written) longest h))
 
   module _ (r : Refusal) (some-left : used < length input) (some-room : longest ≤ length out - written)
-      (h : readSpec (drop used input) ≡ No r) where
+      (h : readSpec (offset + used) (drop used input) ≡ No r) where
     refused : left ≡ refuses core last r
     refused =
-        serve-no core (drop used input) last (some (length out - written)) r (omega (arith, length-drop used input))
+        serve-no core (offset + used) (drop used input) last (some (length out - written)) r (omega (arith, length-drop used input))
         (le-ltb (length out - written) longest some-room) h
 
     -- a record that is cut short waits
-    pub going-waits : waitsFor r last ≡ true → Handed (record { core = core; used = used; written = written; stopped = false }) out
+    pub going-waits : waitsFor r last ≡ true → Handed (record { core = core; used = used; written = written; stopped = false; refusal = noRefusal }) out
     going-waits w = rested (refused ∙ rw w)
 
     -- "After 20, 21 or 22 the program stops."
     pub going-stops : (after : List ℕ) (next : ℕ) → waitsFor r last ≡ false → Put out written (refusalText r) after next
-        → next ≤ written + longest → Handed (record { core = core; used = used; written = next; stopped = true }) after
+        → next ≤ written + longest → Handed (record { core = core; used = used; written = next; stopped = true; refusal = r }) after
     going-stops after next w p few =
-        let e : Ending = record { core = core; used = used; written = next; stopped = true; out = after } in
+        let e : Ending = record { core = core; used = used; written = next; stopped = true; refusal = r; out = after } in
         let z : e ≡ ending (stops core r) used written out = rw (p .stored, p .behind, add-zero) in
         let s : left ≡ stops core r = refused ∙ rw w in
         let d = done whole before e (z ∙ ap (λ (r : Run). ending r used written out) (sym s) ∙ g .same) (omega (arith, g .size)) in

@@ -1,5 +1,6 @@
--- Document 01, "Event records and lines": the calls that an input's records ask for, the refusal at which reading ends, the replies of
--- the calls from the empty core on, and their lines. Calls and replies are listed with the latest first. Assumes nothing.
+-- Document 01, "Event records and lines", with document 02's offset: the calls that an input's records ask for, the refusal at which
+-- reading ends, the replies of the calls from the empty core on, and their lines. Calls and replies are listed with the latest first.
+-- Assumes nothing.
 use Prim.Native.Nat.{ℕ, zero, suc, _+_, _≤_}
 use mathlib.Core.Path.{_≡_}
 use mathlib.Core.Bool.{cond}
@@ -33,32 +34,33 @@ abbrev pub ends : List Asking → Asked
 ends before = record { calls = before; refusal = none }
 
 -- an event's call, and what `next` reads behind its record; "on a refusal reading ends there"
-abbrev pub reads : (List Asking → List ℕ → Asked) → List Asking → List ℕ → Read → Asked
-reads next before s (Got e) = next (askingOf e ∷ before) (drop (sizeOf e) s)
-reads next before s (No r) = record { calls = before; refusal = some r }
+abbrev pub reads : (List Asking → ℕ → List ℕ → Asked) → List Asking → ℕ → List ℕ → Read → Asked
+reads next before offset s (Got e) = next (askingOf e ∷ before) (offset + sizeOf e) (drop (sizeOf e) s)
+reads next before offset s (No r) = record { calls = before; refusal = some r }
 
--- the records at the front of s, at most `fuel` of them, behind the calls before
-unfoldable pub asks : ℕ → List Asking → List ℕ → Asked
-asks zero before s = ends before
-asks (suc fuel) before s = cond (eqb (length s) 0) (ends before) (reads (asks fuel) before s (readSpec s))
+-- the records at the front of s, which begins at this offset from the start of input, at most `fuel` of them, behind the calls before
+unfoldable pub asks : ℕ → List Asking → ℕ → List ℕ → Asked
+asks zero before offset s = ends before
+asks (suc fuel) before offset s =
+    cond (eqb (length s) 0) (ends before) (reads (asks fuel) before offset s (readSpec offset s))
 
 -- all the records of s: each has a byte, so there are no more of them than bytes
-unfoldable pub askedAfter : List Asking → List ℕ → Asked
-askedAfter before s = asks (length s) before s
+unfoldable pub askedAfter : List Asking → ℕ → List ℕ → Asked
+askedAfter before offset s = asks (length s) before offset s
 
 -- what the whole input asks for
 abbrev pub asked : List ℕ → Asked
-asked input = askedAfter [] input
+asked input = askedAfter [] 0 input
 
 -- the records of calls, in their order
 abbrev pub sent : List Asking → List ℕ
 sent [] = []
 sent (a ∷ before) = sent before ++ recordOf (callOf (a .now) (a .change))
 
--- what is left where reading ended: no byte, or a record that is refused
-abbrev pub Ended : List ℕ → Option Refusal → Type 0
-Ended rest none = rest ≡ []
-Ended rest (some r) = (1 ≤ length rest) × (readSpec rest ≡ No r)
+-- what is left where reading ended, at this offset: no byte, or a record that is refused
+abbrev pub Ended : ℕ → List ℕ → Option Refusal → Type 0
+Ended offset rest none = rest ≡ []
+Ended offset rest (some r) = (1 ≤ length rest) × (readSpec offset rest ≡ No r)
 
 -- one record for each call, and the refused one if there is one
 abbrev pub refusedRecords : Option Refusal → ℕ

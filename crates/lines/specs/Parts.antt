@@ -1,4 +1,4 @@
--- The input as it comes, in parts: what one part leaves waits in front of the next. Assumes nothing.
+-- The input as it comes, in parts: what one part leaves waits in front of the next, and has its offset. Assumes nothing.
 use Prim.Native.Nat.{ℕ, _+_}
 use mathlib.Core.Bool.{true, false, cond}
 use mathlib.Core.List.{List, [], _∷_, _++_}
@@ -11,7 +11,13 @@ use Rattle.lines.specs.Serve.{Run, serveOf}
 abbrev pub onward : Run → Run → Run
 onward r rest =
     cond (r .stopped) r
-    (record { core = rest .core; used = r .used + rest .used; lines = r .lines ++ rest .lines; stopped = rest .stopped })
+    (record {
+      core = rest .core;
+      used = r .used + rest .used;
+      lines = r .lines ++ rest .lines;
+      stopped = rest .stopped;
+      refusal = rest .refusal;
+    })
 
 -- bytes that came together, few, many or none, and the room for lines that there was
 pub record Part : Type 0 where
@@ -22,10 +28,10 @@ abbrev pub onePiece : List Part → List ℕ
 onePiece [] = []
 onePiece (p ∷ ps) = p .bytes ++ onePiece ps
 
--- a part is served with what was left before it; then the end of the input
-unfoldable pub inParts : Core → List ℕ → List Part → Run
-inParts core held [] = serveOf core held true none
-inParts core held (p ∷ ps) =
+-- a part is served with what was left before it, which begins at this offset; then the end of the input
+unfoldable pub inParts : Core → ℕ → List ℕ → List Part → Run
+inParts core offset held [] = serveOf core offset held true none
+inParts core offset held (p ∷ ps) =
     let s : List ℕ = held ++ p .bytes in
-    let r : Run = serveOf core s false (some (p .room)) in
-    onward r (inParts (r .core) (drop (r .used) s) ps)
+    let r : Run = serveOf core offset s false (some (p .room)) in
+    onward r (inParts (r .core) (offset + r .used) (drop (r .used) s) ps)

@@ -1,5 +1,5 @@
--- Document 01, "Event records and lines": the records of a part of the input, each with its line, and where serving ends.
--- Assumes nothing.
+-- Document 01, "Event records and lines", with document 02's offset: the records of a part of the input, each with its line, and where
+-- serving ends. Assumes nothing.
 use Prim.Native.Nat.{ℕ, zero, suc, _+_, _-_}
 use mathlib.Core.Bool.{Bool, true, false, cond, not, _&&_, _||_}
 use mathlib.Core.List.{List, [], _++_}
@@ -44,20 +44,25 @@ abbrev pub refusalOf : Read → Refusal
 refusalOf (Got e) = record { number = 0; detail = 0 }
 refusalOf (No r) = r
 
--- what serving gives: the core, the bytes of the records answered, the lines, and whether the input was refused
+-- what serving gives: the core, the bytes of the records answered, the lines, and whether the input was refused, and how
 pub record Run : Type 0 where
   pub core : Core
   pub used : ℕ
   pub lines : List ℕ
   pub stopped : Bool
+  pub refusal : Refusal
+
+-- stands where the input was not refused
+abbrev pub noRefusal : Refusal
+noRefusal = record { number = 0; detail = 0 }
 
 -- nothing more is answered for now: the next record waits for its rest, or its line for room, or there is none
 abbrev pub rests : Core → Run
-rests core = record { core = core; used = 0; lines = []; stopped = false }
+rests core = record { core = core; used = 0; lines = []; stopped = false; refusal = noRefusal }
 
 -- "After 20, 21 or 22 the program stops."
 abbrev pub stops : Core → Refusal → Run
-stops core r = record { core = core; used = 0; lines = refusalText r; stopped = true }
+stops core r = record { core = core; used = 0; lines = refusalText r; stopped = true; refusal = r }
 
 -- a record that is cut short waits for the rest, unless no more input will come
 abbrev pub waitsFor : Refusal → Bool → Bool
@@ -69,7 +74,13 @@ refuses core last r = cond (waitsFor r last) (rests core) (stops core r)
 -- a record's line, then what comes behind it
 abbrev pub behind : ℕ → List ℕ → Run → Run
 behind size line rest =
-    record { core = rest .core; used = size + rest .used; lines = line ++ rest .lines; stopped = rest .stopped }
+    record {
+      core = rest .core;
+      used = size + rest .used;
+      lines = line ++ rest .lines;
+      stopped = rest .stopped;
+      refusal = rest .refusal;
+    }
 
 -- whether a longest line has no room, and the room that a line leaves; `none` is room for all
 abbrev pub full : Option ℕ → Bool
@@ -81,28 +92,29 @@ less none n = none
 less (some room) n = some (room - n)
 
 -- an event's line and what `next` gives for the bytes behind its record, or the refusal
-abbrev pub answers : (Core → List ℕ → Option ℕ → Run) → Core → List ℕ → Bool → Option ℕ → Read → Run
-answers next core s last room (Got e) =
+abbrev pub answers : (Core → ℕ → List ℕ → Bool → Option ℕ → Run) → Core → ℕ → List ℕ → Bool → Option ℕ → Read → Run
+answers next core offset s last room (Got e) =
     let a : Answer = turned core (timeOf e) (changeOf e) in
-    behind (sizeOf e) (lineOf (a .reply)) (next (a .core) (drop (sizeOf e) s) (less room (length (lineOf (a .reply)))))
-answers next core s last room (No r) = refuses core last r
+    behind (sizeOf e) (lineOf (a .reply))
+    (next (a .core) (offset + sizeOf e) (drop (sizeOf e) s) last (less room (length (lineOf (a .reply)))))
+answers next core offset s last room (No r) = refuses core last r
 
--- the records at the front of s, at most `fuel` of them. "At the end of input the program asks for no further record":
--- where no byte is left, or no room for a longest line, nothing is read
-unfoldable pub served : ℕ → Core → List ℕ → Bool → Option ℕ → Run
-served zero core s last room = rests core
-served (suc fuel) core s last room =
-    cond (eqb (length s) 0 || full room) (rests core)
-    (answers (λ core′ s′ room′. served fuel core′ s′ last room′) core s last room (readSpec s))
+-- the records at the front of s, which begins at this offset from the start of input, at most `fuel` of them. "At the end of input the
+-- program asks for no further record": where no byte is left, or no room for a longest line, nothing is read
+unfoldable pub served : ℕ → Core → ℕ → List ℕ → Bool → Option ℕ → Run
+served zero core offset s last room = rests core
+served (suc fuel) core offset s last room =
+    cond (eqb (length s) 0 || full room) (rests core) (answers (served fuel) core offset s last room (readSpec offset s))
 
 -- all the records at the front of s that can be answered: each has a byte, so there are no more of them than bytes
-unfoldable pub serveOf : Core → List ℕ → Bool → Option ℕ → Run
-serveOf core s last room = served (length s) core s last room
+unfoldable pub serveOf : Core → ℕ → List ℕ → Bool → Option ℕ → Run
+serveOf core offset s last room = served (length s) core offset s last room
 
 -- what the program writes for the whole of its input, from the core before any call
 abbrev pub cardLines : List ℕ → List ℕ
-cardLines input = serveOf (made []) input true none .lines
+cardLines input = serveOf (made []) 0 input true none .lines
 
 -- what `serve` hands back: the lines stand in the room, and their length is told
 abbrev pub handed : Run → Served
-handed r = record { core = r .core; used = r .used; written = length (r .lines); stopped = r .stopped }
+handed r =
+    record { core = r .core; used = r .used; written = length (r .lines); stopped = r .stopped; refusal = r .refusal }

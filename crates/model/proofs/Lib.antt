@@ -1,5 +1,5 @@
--- The theorems on what the definitions mean (Meaning), when each reply is given (Table, Replies) and P1 to P12 (Examples), and the laws
--- that carry them. Assumes nothing.
+-- The theorems on what the definitions mean (Meaning), when each reply is given (Table, Replies), P1 to P12 and some first places
+-- (Examples), and the laws that carry them. Assumes nothing.
 pub mod Meaning
 pub mod Table
 pub mod Replies
@@ -8,3 +8,4 @@ pub mod Tests
 pub mod Places
 pub mod Supply
 pub mod Demand
+pub mod TaskRows

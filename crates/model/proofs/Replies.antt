@@ -30,13 +30,13 @@ in-range p e h =
 
 -- of what asks for no length only row 34 is left below rows 30 to 33
 module _ (asked : Asked) (no-length : LengthOut asked → ⊥) where
-  only-34 : Accepted asked → (n : ℕ) → Row asked n → n ≡ 34
-  only-34 a n (row-30 x) = absurd (a 30 (omega arith) (row-30 x))
-  only-34 a n (row-31 x) = absurd (a 31 (omega arith) (row-31 x))
-  only-34 a n (row-32 x) = absurd (a 32 (omega arith) (row-32 x))
-  only-34 a n (row-33 x) = absurd (a 33 (omega arith) (row-33 x))
-  only-34 a n (row-35 x) = absurd (no-length x)
-  only-34 a n (row-34 x) = refl
+  only-34 : Accepted asked → (n d : ℕ) → Row asked n d → n ≡ 34
+  only-34 a n d (row-30 x) = absurd (a 30 0 (omega arith) (row-30 x))
+  only-34 a n d (row-31 k x) = absurd (a 31 k (omega arith) (row-31 k x))
+  only-34 a n d (row-32 k x) = absurd (a 32 k (omega arith) (row-32 k x))
+  only-34 a n d (row-33 x) = absurd (a 33 0 (omega arith) (row-33 x))
+  only-34 a n d (row-35 x) = absurd (no-length x)
+  only-34 a n d (row-34 x) = refl
 
   -- it stands below all others
   lowest : (place : ℕ) → getD rows place 0 ≡ 34 → 5 ≤ place
@@ -48,33 +48,34 @@ module _ (asked : Asked) (no-length : LengthOut asked → ⊥) where
   lowest (suc (suc (suc (suc (suc place))))) e = omega arith
 
   is-34 : (replyTo asked ≡ refuses 34 0) ↔ (Accepted asked × NonePasses asked)
-  is-34 = (λ e. there (table asked .refused 34 0 .0 e .0), λ h. table asked .refused 34 0 .1 (back h, refl))
+  is-34 = (λ e. there (table asked .refused 34 0 .0 e), λ h. table asked .refused 34 0 .1 (back h))
     where
-      there : First asked 34 → Accepted asked × NonePasses asked
-      there f = (above (lowest (f .place) (f .stands)), of-34 asked (f .applies))
+      there : First asked 34 0 → Accepted asked × NonePasses asked
+      there f = (above (lowest (f .place) (f .stands)), of-34 asked 0 (f .applies))
         where
           above : 5 ≤ f .place → Accepted asked
-          above low n l (row-30 x) = f .none-above 0 (omega arith) (row-30 x)
-          above low n l (row-31 x) = f .none-above 1 (omega arith) (row-31 x)
-          above low n l (row-32 x) = f .none-above 2 (omega arith) (row-32 x)
-          above low n l (row-33 x) = f .none-above 3 (omega arith) (row-33 x)
-          above low n l (row-35 x) = no-length x
-          above low n l (row-34 x) = omega (arith, l)
+          above low n d l (row-30 x) = f .none-above 0 0 (omega arith) (row-30 x)
+          above low n d l (row-31 k x) = f .none-above 1 k (omega arith) (row-31 k x)
+          above low n d l (row-32 k x) = f .none-above 2 k (omega arith) (row-32 k x)
+          above low n d l (row-33 x) = f .none-above 3 0 (omega arith) (row-33 x)
+          above low n d l (row-35 x) = no-length x
+          above low n d l (row-34 x) = omega (arith, l)
 
-      back : Accepted asked × NonePasses asked → First asked 34
+      back : Accepted asked × NonePasses asked → First asked 34 0
       back h =
           record {
             place = 5;
             stands = refl;
             applies = row-34 (h .1);
-            none-above = λ p l r. omega (arith, l, lowest p (only-34 (h .0) (getD rows p 0) r));
+            none-above = λ p d l r. omega (arith, l, lowest p (only-34 (h .0) (getD rows p 0) d r));
           }
 
   is-given : (values : List ℕ) → (NonePasses asked → Result asked values → ⊥)
       → (replyTo asked ≡ gives values) ↔ (Accepted asked × Result asked values)
   is-given values some = (
-    λ e. let g = table asked .given values .0 e in (λ n l. g .0 n, g .1),
-    λ h. table asked .given values .1 (λ n r. some (of-34 asked (subst (λ (k : ℕ). Row asked k) (only-34 (h .0) n r) r)) (h .1), h .1),
+    λ e. let g = table asked .given values .0 e in (λ n d l. g .0 n d, g .1),
+    λ h. table asked .given values .1
+        (λ n d r. some (of-34 asked d (subst (λ (k : ℕ). Row asked k d) (only-34 (h .0) n d r) r)) (h .1), h .1),
   )
 
 module _ (w : Work) (P : ℕ) where

@@ -1,5 +1,5 @@
--- The reply table, rows 30 to 35: a row's number is given exactly when it is the first that applies, and a result, the right one, exactly
--- when none does. Of everything that can be asked. Assumes nothing.
+-- The reply table, rows 30 to 35: a row's number and detail are given exactly when it is the first that applies, and a result, the right
+-- one, exactly when none does. Of everything that can be asked. Assumes nothing.
 use Prim.Native.Nat.{ℕ, suc, _-_, _≤_, _<_}
 use mathlib.Core.Path.{_≡_, refl, ap, sym, _∙_, subst}
 use mathlib.Core.Bool.{Bool, true, false, cond, not, _&&_, _||_}
@@ -15,13 +15,14 @@ use Rattle.model.specs.Supply.{supplyOf}
 use Rattle.model.specs.Demand.{demandOf}
 use Rattle.model.specs.Share.{Share, passes, leastOf, bestOf}
 use Rattle.model.specs.Reply.{Reply, gives, refuses}
-use Rattle.model.specs.Rows.{within, row, inRange, miscounted, outOfRange, falls, tasksRow, tasksRows}
+use Rattle.model.specs.Rows.{within, row, inRange, miscounted, outOfRange, falls, firstOut, firstFall, tasksRows}
 use Rattle.model.specs.Rows.{supplyReply, demandReply, checkReply, leastReply, bestReply}
 use Rattle.model.specs.Meaning.{Pass}
 use Rattle.model.specs.Asked.{Work, Asked, supply, demand, check, least, best, replyTo}
-use Rattle.model.specs.Table.{Outside, OutOfRange, Miscounted, TaskOut, PeriodFalls, OfTasks, ShareOut, LengthOut, NonePasses}
+use Rattle.model.specs.Table.{Outside, OutOfRange, Miscounted, TaskOut, PeriodFalls, FirstTask, OfTasks}
+use Rattle.model.specs.Table.{ShareOut, LengthOut, NonePasses}
 use Rattle.model.specs.Table.{Row, row-30, row-31, row-32, row-33, row-34, row-35, rows, First, NoRow, Result, Table}
-use Rattle.model.proofs.Tests.{clash, below-or-from}
+use Rattle.model.proofs.Tests.{clash, below-or-from, neither-below}
 use Rattle.model.proofs.Places.{first-smallest}
 use Rattle.model.proofs.Supply.{supply-means, supply-only}
 use Rattle.model.proofs.Demand.{demand-means, demand-only}
@@ -59,36 +60,32 @@ out-of-range P B = not-both (within P 2000) (within B P) (outside P 2000) (outsi
 above : (n t : ℕ) → Tells (ltb n t) (n < t)
 above n t = (ltb-true n t, λ e l. omega (arith, ltb-false n t e))
 
--- a test that has a first place holds at one
-at-one : (f : ℕ → Bool) (n : ℕ) (A : ℕ → Type 0) → ((k : ℕ) → 1 ≤ k → Tells (f k) (A k))
-    → Tells (ltb 0 (first f n)) ((k : ℕ) × (1 ≤ k) × (k ≤ n) × A k)
-at-one f n A h = (there, nowhere)
+-- a test tells the first place of its kind: where it holds that is k, and where it does not there is none
+abbrev TellsFirst : Bool → ℕ → (ℕ → Type 0) → Type 0
+TellsFirst b k Such = (b ≡ true → Such k × ((j : ℕ) → j < k → Such j → ⊥)) × (b ≡ false → (j : ℕ) → Such j → ⊥)
+
+first-tells : (f : ℕ → Bool) (n : ℕ) (Such : ℕ → Type 0) → ((k : ℕ) → Such k → (1 ≤ k) × (k ≤ n))
+    → ((k : ℕ) → 1 ≤ k → k ≤ n → Tells (f k) (Such k)) → TellsFirst (ltb 0 (first f n)) (first f n) Such
+first-tells f n Such inside tells = (there, nowhere)
   where
-    there : ltb 0 (first f n) ≡ true → (k : ℕ) × (1 ≤ k) × (k ≤ n) × A k
+    there : ltb 0 (first f n) ≡ true → Such (first f n) × ((j : ℕ) → j < first f n → Such j → ⊥)
     there e =
         let p = ltb-true 0 (first f n) e in
         let i = first-smallest f n in
-        (first f n, p, i .most, h (first f n) p .0 (i .holds p))
+        let before : (j : ℕ) → j < first f n → Such j → ⊥ =
+        λ j l x. let at = inside j x in tells j (at .0) (at .1) .1 (i .least j (at .0) l) x in
+        (tells (first f n) p (i .most) .0 (i .holds p), before)
 
-    nowhere : ltb 0 (first f n) ≡ false → (k : ℕ) × (1 ≤ k) × (k ≤ n) × A k → ⊥
-    nowhere e x =
+    nowhere : ltb 0 (first f n) ≡ false → (j : ℕ) → Such j → ⊥
+    nowhere e j x =
         let z : first f n ≡ 0 = omega (arith, ltb-false 0 (first f n) e) in
-        h (x .0) (x .1) .1 (first-smallest f n .none z (x .0) (x .1) (x .2)) (x .3)
+        let at = inside j x in
+        tells j (at .0) (at .1) .1 (first-smallest f n .none z j (at .0) (at .1)) x
 
--- the rows of a task list, one by one
-one-by-one : (ps es : List ℕ) (rest : Reply) → tasksRows ps es rest
-    ≡ row (miscounted ps es) 30 0
-    (row (ltb 0 (first (outOfRange ps es) (length ps))) 31 0 (row (ltb 0 (first (falls ps) (length ps))) 32 0 rest))
-unfolding tasksRow tasksRows
-one-by-one ps es rest =
-    go (miscounted ps es) refl (ltb 0 (first (outOfRange ps es) (length ps))) refl (ltb 0 (first (falls ps) (length ps))) refl
-  where
-    go : (a : Bool) → miscounted ps es ≡ a → (b : Bool) → ltb 0 (first (outOfRange ps es) (length ps)) ≡ b
-        → (c : Bool) → ltb 0 (first (falls ps) (length ps)) ≡ c → tasksRows ps es rest ≡ row a 30 0 (row b 31 0 (row c 32 0 rest))
-    go true ea b eb c ec = rw ea
-    go false ea true eb c ec = rw (ea, eb)
-    go false ea false eb true ec = rw (ea, eb, ec)
-    go false ea false eb false ec = rw (ea, eb, ec)
+-- where there is one there is a first
+has-first : (b : Bool) (k : ℕ) (Such : ℕ → Type 0) → TellsFirst b k Such → (j : ℕ) → Such j → Such k × ((j : ℕ) → j < k → Such j → ⊥)
+has-first true k Such tells j x = tells .0 refl
+has-first false k Such tells j x = absurd (tells .1 refl j x)
 
 module _ (w : Work) where
   abbrev ps : List ℕ
@@ -120,53 +117,70 @@ module _ (w : Work) where
       back (inr (inl many)) = inl (inr many)
       back (inr (inr unpaired)) = inr unpaired
 
-  pub task-out : Tells (ltb 0 (first (outOfRange ps es) (length ps))) (TaskOut w)
-  task-out = at-one (outOfRange ps es) (length ps) _ (λ k p. out-of-range (getD ps (k - 1) 0) (getD es (k - 1) 0))
+  pub task-out : TellsFirst (ltb 0 (firstOut ps es)) (firstOut ps es) (TaskOut w)
+  task-out = first-tells (outOfRange ps es) (length ps) (TaskOut w) (λ k x. (x .0, x .1)) told
+    where
+      told : (k : ℕ) → 1 ≤ k → k ≤ length ps → Tells (outOfRange ps es k) (TaskOut w k)
+      told k from to =
+          let r = out-of-range (getD ps (k - 1) 0) (getD es (k - 1) 0) in
+          (λ e. (from, to, r .0 e), λ e x. r .1 e (x .2))
 
-  pub period-falls : Tells (ltb 0 (first (falls ps) (length ps))) (PeriodFalls w)
-  period-falls = (λ e. there (a .0 e), λ e x. a .1 e (x .0, omega (arith, x .1), x .2, (x .1, x .3)))
+  pub period-falls : TellsFirst (ltb 0 (firstFall ps)) (firstFall ps) (PeriodFalls w)
+  period-falls = first-tells (falls ps) (length ps) (PeriodFalls w) (λ k x. (omega (arith, x .0), x .1)) told
     where
       both : {A B : Type 0} (a b : Bool) → Tells a A → Tells b B → Tells (a && b) (A × B)
       both true b x y = (λ e. (x .0 refl, y .0 e), λ e p. y .1 e (p .1))
       both false b x y = (λ e. absurd (clash e refl), λ e p. x .1 refl (p .0))
 
-      a : Tells (ltb 0 (first (falls ps) (length ps)))
-          ((k : ℕ) × (1 ≤ k) × (k ≤ length ps) × ((1 < k) × (getD ps (k - 1) 0 < getD ps (k - 2) 0)))
-      a = at-one (falls ps) (length ps) _ (λ k p. both (ltb 1 k) (ltb (getD ps (k - 1) 0) (getD ps (k - 2) 0)) (above 1 k) (above _ _))
+      told : (k : ℕ) → 1 ≤ k → k ≤ length ps → Tells (falls ps k) (PeriodFalls w k)
+      told k from to =
+          let r = both (ltb 1 k) (ltb (getD ps (k - 1) 0) (getD ps (k - 2) 0)) (above 1 k) (above _ _) in
+          (λ e. let x = r .0 e in (x .0, to, x .1), λ e x. r .1 e (x .0, x .2))
 
-      there : (k : ℕ) × (1 ≤ k) × (k ≤ length ps) × ((1 < k) × (getD ps (k - 1) 0 < getD ps (k - 2) 0)) → PeriodFalls w
-      there x = (x .0, x .3 .0, x .2, x .3 .1)
+  -- rows 31 and 32 apply where there is such a task, whichever
+  pub some-out : (j : ℕ) → TaskOut w j → FirstTask TaskOut (firstOut ps es) w
+  some-out = has-first (ltb 0 (firstOut ps es)) (firstOut ps es) (TaskOut w) task-out
+
+  pub some-fall : (j : ℕ) → PeriodFalls w j → FirstTask PeriodFalls (firstFall ps) w
+  some-fall = has-first (ltb 0 (firstFall ps)) (firstFall ps) (PeriodFalls w) period-falls
 
   -- where row 31 does not apply, a ceil by each period exists
-  whole : (TaskOut w → ⊥) → Whole ps
+  whole : ((k : ℕ) → FirstTask TaskOut k w → ⊥) → Whole ps
   whole fit k l = go (eq-zero-or-pos (getD ps k 0))
     where
       go : (getD ps k 0 ≡ 0) ⊎ (0 < getD ps k 0) → 1 ≤ getD ps k 0
       go (inl z) =
           let e : suc k - 1 ≡ k = omega arith in
           let out : getD ps (suc k - 1) 0 < 1 = rw e (omega (arith, z)) in
-          absurd (fit (suc k, omega arith, l, inl (inl out)))
+          absurd (fit (firstOut ps es) (some-out (suc k) (omega arith, l, inl (inl out))))
       go (inr pos) = pos
 
 -- a test with what it tells
 abbrev Test : Type 0 → Type 0
 Test A = (b : Bool) × Tells b A
 
+-- a test with the detail of which it tells: where it holds this one is right, and where it does not none is
+abbrev TellsDetail : Bool → ℕ → (ℕ → Type 0) → Type 0
+TellsDetail b d A = (b ≡ true → A d) × (b ≡ false → (e : ℕ) → A e → ⊥)
+
+abbrev DetailTest : (ℕ → Type 0) → Type 0
+DetailTest A = (b : Bool) × (d : ℕ) × TellsDetail b d A
+
 -- what is asked is answered by tests of the table's rows from the top, and by the one result; whether a budget passes is told where row 31
 -- does not apply
 record Told (asked : Asked) : Type 0 where
   is-30 : Test (OfTasks Miscounted asked)
-  is-31 : Test (OfTasks TaskOut asked)
-  is-32 : Test (OfTasks PeriodFalls asked)
+  is-31 : DetailTest (λ k. OfTasks (FirstTask TaskOut k) asked)
+  is-32 : DetailTest (λ k. OfTasks (FirstTask PeriodFalls k) asked)
   is-33 : Test (ShareOut asked)
   is-35 : Test (LengthOut asked)
   is-34 : Bool
-  tells-34 : (OfTasks TaskOut asked → ⊥) → Tells is-34 (NonePasses asked)
+  tells-34 : ((k : ℕ) → OfTasks (FirstTask TaskOut k) asked → ⊥) → Tells is-34 (NonePasses asked)
   values : List ℕ
   right : NoRow asked → Result asked values
   only : NoRow asked → (v : List ℕ) → Result asked v → values ≡ v
   reply : replyTo asked
-      ≡ row (is-30 .0) 30 0 (row (is-31 .0) 31 0 (row (is-32 .0) 32 0
+      ≡ row (is-30 .0) 30 0 (row (is-31 .0) 31 (is-31 .1) (row (is-32 .0) 32 (is-32 .1)
       (row (is-33 .0) 33 0 (row (is-35 .0) 35 0 (row is-34 34 0 (gives values))))))
 
 -- a period that is not out of range is at least 1
@@ -182,26 +196,32 @@ unfolding supplyReply
 told-supply P B t =
     record {
       is-30 = (_, never);
-      is-31 = (_, never);
-      is-32 = (_, never);
+      is-31 = (_, 0, (never .0, λ e k. never .1 e));
+      is-32 = (_, 0, (never .0, λ e k. never .1 e));
       is-33 = (_, out-of-range P B);
       is-35 = (_, above 2000 t);
       is-34 = _;
       tells-34 = λ fit. never;
       values = supplyOf P B t ∷ [];
-      right = λ h. (supplyOf P B t, refl, supply-means P B t (positive P (λ x. h 33 (row-33 (inl x)))));
+      right = λ h. (supplyOf P B t, refl, supply-means P B t (positive P (λ x. h 33 0 (row-33 (inl x)))));
       only = λ h v r. ap (λ (s : ℕ). s ∷ []) (supply-only P B t (r .0) (r .2)) ∙ sym (r .1);
       reply = refl;
     }
 
 module _ (w : Work) where
+  abbrev is-out : DetailTest (λ k. FirstTask TaskOut k w)
+  is-out = (_, firstOut (ps w) (es w), (task-out w .0, λ e k x. task-out w .1 e k (x .0)))
+
+  abbrev is-fall : DetailTest (λ k. FirstTask PeriodFalls k w)
+  is-fall = (_, firstFall (ps w), (period-falls w .0, λ e k x. period-falls w .1 e k (x .0)))
+
   told-demand : (i t : ℕ) → Told (demand w i t)
-  unfolding demandReply
+  unfolding tasksRows demandReply
   told-demand i t =
       record {
         is-30 = (_, count-out w);
-        is-31 = (_, task-out w);
-        is-32 = (_, period-falls w);
+        is-31 = is-out;
+        is-32 = is-fall;
         is-33 = (_, never);
         is-35 = (_, either (ltb 2000 t) (not (within i (length (ps w)))) (above 2000 t) (outside i (length (ps w))));
         is-34 = _;
@@ -209,23 +229,23 @@ module _ (w : Work) where
         values = demandOf (ps w) (es w) i t ∷ [];
         right = λ h. (demandOf (ps w) (es w) i t, refl, demand-means (ps w) (es w) i t (periods h));
         only = λ h v r. ap (λ (d : ℕ). d ∷ []) (demand-only (ps w) (es w) i t (r .0) (r .2)) ∙ sym (r .1);
-        reply = one-by-one (ps w) (es w) _;
+        reply = refl;
       }
     where
       periods : NoRow (demand w i t) → (k : ℕ) → k < i → 1 ≤ getD (ps w) k 0
       periods h k l = go (below-or-from (length (ps w)) i)
         where
           go : (length (ps w) < i) ⊎ (i ≤ length (ps w)) → 1 ≤ getD (ps w) k 0
-          go (inl behind) = absurd (h 35 (row-35 (inr (inr behind))))
-          go (inr inside) = whole w (λ x. h 31 (row-31 x)) k (omega arith)
+          go (inl behind) = absurd (h 35 0 (row-35 (inr (inr behind))))
+          go (inr inside) = whole w (λ k x. h 31 k (row-31 k x)) k (omega arith)
 
   told-check : (P B : ℕ) → Told (check w P B)
-  unfolding checkReply
+  unfolding tasksRows checkReply
   told-check P B =
       record {
         is-30 = (_, count-out w);
-        is-31 = (_, task-out w);
-        is-32 = (_, period-falls w);
+        is-31 = is-out;
+        is-32 = is-fall;
         is-33 = (_, out-of-range P B);
         is-35 = (_, never);
         is-34 = _;
@@ -233,11 +253,11 @@ module _ (w : Work) where
         values = cond (passes P (ps w) (es w) B) 1 0 ∷ [];
         right = λ h. right h (passes P (ps w) (es w) B) refl;
         only = λ h v r. only h (passes P (ps w) (es w) B) refl v r;
-        reply = one-by-one (ps w) (es w) _;
+        reply = refl;
       }
     where
       pass : NoRow (check w P B) → passes P (ps w) (es w) B ≡ true → Pass P B (ps w) (es w)
-      pass h = passes-means P B (ps w) (es w) (positive P (λ x. h 33 (row-33 (inl x)))) (whole w (λ x. h 31 (row-31 x))) .0
+      pass h = passes-means P B (ps w) (es w) (positive P (λ x. h 33 0 (row-33 (inl x)))) (whole w (λ k x. h 31 k (row-31 k x))) .0
 
       right : NoRow (check w P B) → (b : Bool) → passes P (ps w) (es w) B ≡ b → Result (check w P B) (cond b 1 0 ∷ [])
       right h true e = inl (refl, pass h e)
@@ -254,45 +274,45 @@ module _ (w : Work) where
   none x A there back = (λ e. there (eqb-true x 0 e), λ e a. eqb-false x 0 e (back a))
 
   told-least : (P : ℕ) → Told (least w P)
-  unfolding leastReply
+  unfolding tasksRows leastReply
   told-least P =
       record {
         is-30 = (_, count-out w);
-        is-31 = (_, task-out w);
-        is-32 = (_, period-falls w);
+        is-31 = is-out;
+        is-32 = is-fall;
         is-33 = (_, outside P 2000);
         is-35 = (_, never);
         is-34 = _;
         tells-34 = λ fit. let m = least-none P (ps w) (es w) (whole w fit) in none (leastOf P (ps w) (es w)) _ (m .0) (m .1);
         values = leastOf P (ps w) (es w) ∷ [];
         right = λ h.
-            let fit = whole w (λ x. h 31 (row-31 x)) in
-            let some : leastOf P (ps w) (es w) ≡ 0 → ⊥ = λ z. h 34 (row-34 (least-none P (ps w) (es w) fit .0 z)) in
+            let fit = whole w (λ k x. h 31 k (row-31 k x)) in
+            let some : leastOf P (ps w) (es w) ≡ 0 → ⊥ = λ z. h 34 0 (row-34 (least-none P (ps w) (es w) fit .0 z)) in
             (leastOf P (ps w) (es w), refl, least-means P (ps w) (es w) fit (omega arith));
-        only = λ h v r. ap (λ (B : ℕ). B ∷ []) (least-only P (ps w) (es w) (whole w (λ x. h 31 (row-31 x))) (r .0) (r .2)) ∙ sym (r .1);
-        reply = one-by-one (ps w) (es w) _;
+        only = λ h v r. ap (λ (B : ℕ). B ∷ []) (least-only P (ps w) (es w) (whole w (λ k x. h 31 k (row-31 k x))) (r .0) (r .2)) ∙ sym (r .1);
+        reply = refl;
       }
 
   told-best : (P-max : ℕ) → Told (best w P-max)
-  unfolding bestReply
+  unfolding tasksRows bestReply
   told-best P-max =
       record {
         is-30 = (_, count-out w);
-        is-31 = (_, task-out w);
-        is-32 = (_, period-falls w);
+        is-31 = is-out;
+        is-32 = is-fall;
         is-33 = (_, outside P-max 2000);
         is-35 = (_, never);
         is-34 = _;
         tells-34 = λ fit. let m = best-none (ps w) (es w) (whole w fit) P-max in none (bestOf (ps w) (es w) P-max .budget) _ (m .0) (m .1);
         values = bestOf (ps w) (es w) P-max .period ∷ bestOf (ps w) (es w) P-max .budget ∷ [];
         right = λ h.
-            let fit = whole w (λ x. h 31 (row-31 x)) in
-            let some : bestOf (ps w) (es w) P-max .budget ≡ 0 → ⊥ = λ z. h 34 (row-34 (best-none (ps w) (es w) fit P-max .0 z)) in
+            let fit = whole w (λ k x. h 31 k (row-31 k x)) in
+            let some : bestOf (ps w) (es w) P-max .budget ≡ 0 → ⊥ = λ z. h 34 0 (row-34 (best-none (ps w) (es w) fit P-max .0 z)) in
             (bestOf (ps w) (es w) P-max, refl, best-means (ps w) (es w) fit P-max (omega arith));
         only = λ h v r.
-            ap (λ (s : Share). s .period ∷ s .budget ∷ []) (best-only (ps w) (es w) (whole w (λ x. h 31 (row-31 x))) P-max (r .0) (r .2))
+            ap (λ (s : Share). s .period ∷ s .budget ∷ []) (best-only (ps w) (es w) (whole w (λ k x. h 31 k (row-31 k x))) P-max (r .0) (r .2))
             ∙ sym (r .1);
-        reply = one-by-one (ps w) (es w) _;
+        reply = refl;
       }
 
 told : (asked : Asked) → Told asked
@@ -302,85 +322,105 @@ told (check w P B) = told-check w P B
 told (least w P) = told-least w P
 told (best w P-max) = told-best w P-max
 
+-- the first place of its kind is one
+one-place : (Such : Work → ℕ → Type 0) (w : Work) (k j : ℕ) → FirstTask Such k w → FirstTask Such j w → k ≡ j
+one-place Such w k j x y = neither-below k j (λ l. y .1 k l (x .0)) (λ l. x .1 j l (y .0))
+
 module _ (asked : Asked) where
   -- none of the rows above this place applies
   abbrev Above : ℕ → Type 0
-  Above place = (p : ℕ) → p < place → Row asked (getD rows p 0) → ⊥
+  Above place = (p d : ℕ) → p < place → Row asked (getD rows p 0) d → ⊥
 
   -- what a reply says of the rows
   abbrev Says : Reply → Type 0
-  Says (refuses number detail) = First asked number × (detail ≡ 0)
+  Says (refuses number detail) = First asked number detail
   Says (gives values) = NoRow asked × Result asked values
 
   -- a row either applies, and is the first, or the rows below it are left
-  step : (o : Reply) (place : ℕ) (t : Bool) (below : Reply) → row t (getD rows place 0) 0 below ≡ o
-      → Tells t (Row asked (getD rows place 0)) → (below ≡ o → Above (suc place) → Says o) → Above place → Says o
-  step o place true below e tells next a =
-      subst Says e (record { place = place; stands = refl; applies = tells .0 refl; none-above = a }, refl)
-  step o place false below e tells next a = next e past
+  step : (o : Reply) (place : ℕ) (t : Bool) (detail : ℕ) (below : Reply) → row t (getD rows place 0) detail below ≡ o
+      → TellsDetail t detail (Row asked (getD rows place 0)) → (below ≡ o → Above (suc place) → Says o) → Above place → Says o
+  step o place true detail below e tells next a =
+      subst Says e (record { place = place; stands = refl; applies = tells .0 refl; none-above = a })
+  step o place false detail below e tells next a = next e past
     where
       past : Above (suc place)
-      past p h r = go (le-suc-iff .0 h)
+      past p d h r = go (le-suc-iff .0 h)
         where
           go : (suc p ≤ place) ⊎ (suc p ≡ suc place) → ⊥
-          go (inl l) = a p l r
-          go (inr e) = let here : p ≡ place = omega arith in tells .1 refl (subst (λ (q : ℕ). Row asked (getD rows q 0)) here r)
+          go (inl l) = a p d l r
+          go (inr e) = let here : p ≡ place = omega arith in tells .1 refl d (subst (λ (q : ℕ). Row asked (getD rows q 0) d) here r)
 
   bottom : Above 6 → NoRow asked
-  bottom a n (row-30 x) = a 0 (omega arith) (row-30 x)
-  bottom a n (row-31 x) = a 1 (omega arith) (row-31 x)
-  bottom a n (row-32 x) = a 2 (omega arith) (row-32 x)
-  bottom a n (row-33 x) = a 3 (omega arith) (row-33 x)
-  bottom a n (row-35 x) = a 4 (omega arith) (row-35 x)
-  bottom a n (row-34 x) = a 5 (omega arith) (row-34 x)
+  bottom a n d (row-30 x) = a 0 0 (omega arith) (row-30 x)
+  bottom a n d (row-31 k x) = a 1 k (omega arith) (row-31 k x)
+  bottom a n d (row-32 k x) = a 2 k (omega arith) (row-32 k x)
+  bottom a n d (row-33 x) = a 3 0 (omega arith) (row-33 x)
+  bottom a n d (row-35 x) = a 4 0 (omega arith) (row-35 x)
+  bottom a n d (row-34 x) = a 5 0 (omega arith) (row-34 x)
 
-  same : {A B : Type 0} {b : Bool} → Tells b A → (A → B) → (B → A) → Tells b B
-  same x there back = (λ e. there (x .0 e), λ e b. x .1 e (back b))
+  -- a test of what a row says is a test of the row
+  same : {A : ℕ → Type 0} {b : Bool} {d n : ℕ} → TellsDetail b d A → (A d → Row asked n d) → ((e : ℕ) → Row asked n e → A e)
+      → TellsDetail b d (Row asked n)
+  same x there back = (λ e. there (x .0 e), λ e d r. x .1 e d (back d r))
 
-  of-30 : Row asked 30 → OfTasks Miscounted asked
-  of-30 (row-30 x) = x
+  plain : {A : Type 0} {b : Bool} {n : ℕ} → Tells b A → (A → Row asked n 0) → ((e : ℕ) → Row asked n e → A) → TellsDetail b 0 (Row asked n)
+  plain x there back = (λ e. there (x .0 e), λ e d r. x .1 e (back d r))
 
-  of-31 : Row asked 31 → OfTasks TaskOut asked
-  of-31 (row-31 x) = x
+  of-30 : (d : ℕ) → Row asked 30 d → OfTasks Miscounted asked
+  of-30 d (row-30 x) = x
 
-  of-32 : Row asked 32 → OfTasks PeriodFalls asked
-  of-32 (row-32 x) = x
+  of-31 : (d : ℕ) → Row asked 31 d → OfTasks (FirstTask TaskOut d) asked
+  of-31 d (row-31 k x) = x
 
-  of-33 : Row asked 33 → ShareOut asked
-  of-33 (row-33 x) = x
+  of-32 : (d : ℕ) → Row asked 32 d → OfTasks (FirstTask PeriodFalls d) asked
+  of-32 d (row-32 k x) = x
 
-  of-35 : Row asked 35 → LengthOut asked
-  of-35 (row-35 x) = x
+  of-33 : (d : ℕ) → Row asked 33 d → ShareOut asked
+  of-33 d (row-33 x) = x
 
-  pub of-34 : Row asked 34 → NonePasses asked
-  of-34 (row-34 x) = x
+  of-35 : (d : ℕ) → Row asked 35 d → LengthOut asked
+  of-35 d (row-35 x) = x
+
+  pub of-34 : (d : ℕ) → Row asked 34 d → NonePasses asked
+  of-34 d (row-34 x) = x
 
   abbrev t : Told asked
   t = told asked
 
   says : (o : Reply) → replyTo asked ≡ o → Says o
   says o e =
-      step o 0 _ _ (sym (t .reply) ∙ e) (same (t .is-30 .1) row-30 of-30)
-      (λ e. step o 1 _ _ e (same (t .is-31 .1) row-31 of-31)
-      (λ e. step o 2 _ _ e (same (t .is-32 .1) row-32 of-32)
-      (λ e. step o 3 _ _ e (same (t .is-33 .1) row-33 of-33)
-      (λ e. step o 4 _ _ e (same (t .is-35 .1) row-35 of-35)
-      (λ e a. step o 5 _ _ e (same (t .tells-34 (λ x. a 1 (omega arith) (row-31 x))) row-34 of-34)
-      (λ e a. subst Says e (bottom a, t .right (bottom a))) a))))) (λ p h r. absurd (omega arith))
+      step o 0 _ _ _ (sym (t .reply) ∙ e) (plain (t .is-30 .1) row-30 of-30)
+      (λ e. step o 1 _ _ _ e (same (t .is-31 .2) (row-31 _) of-31)
+      (λ e. step o 2 _ _ _ e (same (t .is-32 .2) (row-32 _) of-32)
+      (λ e. step o 3 _ _ _ e (plain (t .is-33 .1) row-33 of-33)
+      (λ e. step o 4 _ _ _ e (plain (t .is-35 .1) row-35 of-35)
+      (λ e a. step o 5 _ _ _ e (plain (t .tells-34 (λ k x. a 1 k (omega arith) (row-31 k x))) row-34 of-34)
+      (λ e a. subst Says e (bottom a, t .right (bottom a))) a))))) (λ p d h r. absurd (omega arith))
 
   -- of two that are first neither stands above the other
-  one-first : (n m : ℕ) → First asked n → First asked m → n ≡ m
-  one-first n m f g = go (below-or-from (f .place) (g .place)) (below-or-from (g .place) (f .place))
+  one-first : (n m d k : ℕ) → First asked n d → First asked m k → n ≡ m
+  one-first n m d k f g =
+      let e : f .place ≡ g .place = neither-below (f .place) (g .place) (not-above n m d k f g) (not-above m n k d g f) in
+      sym (f .stands) ∙ ap (λ (p : ℕ). getD rows p 0) e ∙ g .stands
     where
-      not-above : (a b : ℕ) (x : First asked a) (y : First asked b) → x .place < y .place → ⊥
-      not-above a b x y l = y .none-above (x .place) l (subst (λ (k : ℕ). Row asked k) (sym (x .stands)) (x .applies))
+      not-above : (a b c d : ℕ) (x : First asked a c) (y : First asked b d) → x .place < y .place → ⊥
+      not-above a b c d x y l = y .none-above (x .place) c l (subst (λ (r : ℕ). Row asked r c) (sym (x .stands)) (x .applies))
 
-      go : (f .place < g .place) ⊎ (g .place ≤ f .place) → (g .place < f .place) ⊎ (f .place ≤ g .place) → n ≡ m
-      go (inl l) k = absurd (not-above n m f g l)
-      go (inr h) (inl l) = absurd (not-above m n g f l)
-      go (inr h) (inr k) =
-          let e : f .place ≡ g .place = omega arith in
-          sym (f .stands) ∙ ap (λ (p : ℕ). getD rows p 0) e ∙ g .stands
+  -- a row has one detail
+  one-task : (a : Asked) (Such : Work → ℕ → Type 0) (k j : ℕ) → OfTasks (FirstTask Such k) a → OfTasks (FirstTask Such j) a → k ≡ j
+  one-task (supply P B t) Such k j x y = absurd x
+  one-task (demand w i t) Such k j x y = one-place Such w k j x y
+  one-task (check w P B) Such k j x y = one-place Such w k j x y
+  one-task (least w P) Such k j x y = one-place Such w k j x y
+  one-task (best w P-max) Such k j x y = one-place Such w k j x y
+
+  one-detail : (n d e : ℕ) → Row asked n d → Row asked n e → d ≡ e
+  one-detail n d e (row-30 x) (row-30 y) = refl
+  one-detail n d e (row-31 k x) (row-31 j y) = one-task asked TaskOut k j x y
+  one-detail n d e (row-32 k x) (row-32 j y) = one-task asked PeriodFalls k j x y
+  one-detail n d e (row-33 x) (row-33 y) = refl
+  one-detail n d e (row-35 x) (row-35 y) = refl
+  one-detail n d e (row-34 x) (row-34 y) = refl
 
   pub table : Table asked
   table =
@@ -390,16 +430,18 @@ module _ (asked : Asked) where
         answered = (λ x. says (gives (x .0)) (x .1) .0, λ h. answered h (replyTo asked) refl);
       }
     where
-      refused : (n d : ℕ) → First asked n × (d ≡ 0) → (o : Reply) → replyTo asked ≡ o → replyTo asked ≡ refuses n d
-      refused n d h (gives v) e = absurd (says (gives v) e .0 n (h .0 .applies))
+      refused : (n d : ℕ) → First asked n d → (o : Reply) → replyTo asked ≡ o → replyTo asked ≡ refuses n d
+      refused n d h (gives v) e = absurd (says (gives v) e .0 n d (h .applies))
       refused n d h (refuses m k) e =
-          let s = says (refuses m k) e in
-          e ∙ ap (λ (x : ℕ). refuses x k) (one-first m n (s .0) (h .0)) ∙ ap (refuses n) (s .1 ∙ sym (h .1))
+          let s : First asked m k = says (refuses m k) e in
+          let number : m ≡ n = one-first m n k d s h in
+          let detail : k ≡ d = one-detail n k d (subst (λ (x : ℕ). Row asked x k) number (s .applies)) (h .applies) in
+          e ∙ ap (λ (x : ℕ). refuses x k) number ∙ ap (refuses n) detail
 
       given : (v : List ℕ) → NoRow asked × Result asked v → (o : Reply) → replyTo asked ≡ o → replyTo asked ≡ gives v
       given v h (gives u) e = e ∙ ap gives (sym (t .only (h .0) u (says (gives u) e .1)) ∙ t .only (h .0) v (h .1))
-      given v h (refuses m k) e = absurd (h .0 m (says (refuses m k) e .0 .applies))
+      given v h (refuses m k) e = absurd (h .0 m k (says (refuses m k) e .applies))
 
       answered : NoRow asked → (o : Reply) → replyTo asked ≡ o → (values : List ℕ) × (replyTo asked ≡ gives values)
       answered h (gives v) e = (v, e)
-      answered h (refuses m k) e = absurd (h m (says (refuses m k) e .0 .applies))
+      answered h (refuses m k) e = absurd (h m k (says (refuses m k) e .applies))

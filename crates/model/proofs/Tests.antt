@@ -54,3 +54,11 @@ below-or-from m n = go (ltb m n) refl
     go : (b : Bool) → ltb m n ≡ b → (m < n) ⊎ (n ≤ m)
     go true e = inl (ltb-true m n e)
     go false e = inr (ltb-false m n e)
+
+pub neither-below : (m n : ℕ) → (m < n → ⊥) → (n < m → ⊥) → m ≡ n
+neither-below m n f g = go (below-or-from m n) (below-or-from n m)
+  where
+    go : (m < n) ⊎ (n ≤ m) → (n < m) ⊎ (m ≤ n) → m ≡ n
+    go (inl l) k = absurd (f l)
+    go (inr h) (inl l) = absurd (g l)
+    go (inr h) (inr k) = omega arith

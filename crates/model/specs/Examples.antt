@@ -1,5 +1,5 @@
--- Document 01, "Sizing examples, to be proved": what is asked and the complete reply, as one list. proofs/Examples.antt proves it.
--- No code cites it. Assumes nothing.
+-- Document 01, "Sizing examples, to be proved": what is asked and the complete reply, as one list; and places of the first bad task by
+-- document 02, No. 2. proofs/Examples.antt proves both. No code cites them. Assumes nothing.
 use Prim.Native.Nat.{ℕ}
 use mathlib.Core.Path.{_≡_}
 use mathlib.Core.List.{List, [], _∷_}
@@ -40,4 +40,21 @@ examples P =
     ∷ record { asked = best W 5; reply = gives (3 ∷ 2 ∷ []) }
     ∷ record { asked = least W11 P; reply = refuses 34 0 }
     ∷ record { asked = best W12 3; reply = gives (3 ∷ 3 ∷ []) }
+    ∷ []
+
+-- the third and the fourth task are out of range, one by its cost and one by its period, and the second one's period falls
+abbrev pub TwoOut : Work
+TwoOut = record { periods = 5 ∷ 4 ∷ 10 ∷ 2001 ∷ []; costs = 1 ∷ 1 ∷ 11 ∷ 1 ∷ [] }
+
+-- the second period is that of the first; the fourth and the fifth fall
+abbrev pub TwoFalls : Work
+TwoFalls = record { periods = 5 ∷ 5 ∷ 10 ∷ 8 ∷ 6 ∷ []; costs = 1 ∷ 1 ∷ 1 ∷ 1 ∷ 1 ∷ [] }
+
+-- "For 31 and 32 it becomes the first such task's place, counted from 1"
+abbrev pub firstPlaces : List Example
+firstPlaces =
+    record { asked = demand TwoOut 1 5; reply = refuses 31 3 }
+    ∷ record { asked = check TwoOut 3 2; reply = refuses 31 3 }
+    ∷ record { asked = least TwoFalls 5; reply = refuses 32 4 }
+    ∷ record { asked = best TwoFalls 5; reply = refuses 32 4 }
     ∷ []

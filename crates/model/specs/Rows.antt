@@ -1,5 +1,5 @@
--- Document 01, "Reply numbers", rows 30 to 35, in the table's order, and the complete reply of each public function of `shares`.
--- Assumes nothing.
+-- Document 01, "Reply numbers", rows 30 to 35, in the table's order, with document 02's details, and the complete reply of each public
+-- function of `shares`. Assumes nothing.
 use Prim.Native.Nat.{ℕ, _-_}
 use mathlib.Core.Bool.{Bool, true, false, cond, not, _&&_, _||_}
 use mathlib.Core.List.{List, [], _∷_}
@@ -36,16 +36,20 @@ outOfRange periods costs k = not (inRange (getD periods (k - 1) 0) (getD costs (
 abbrev pub falls : List ℕ → ℕ → Bool
 falls periods k = ltb 1 k && ltb (getD periods (k - 1) 0) (getD periods (k - 2) 0)
 
--- of rows 30, 31 on all tasks, 32: the number of the first that applies, 0 where none does
-unfoldable pub tasksRow : List ℕ → List ℕ → ℕ
-tasksRow periods costs =
-    cond (miscounted periods costs) 30
-    (cond (ltb 0 (first (outOfRange periods costs) (length periods))) 31
-    (cond (ltb 0 (first (falls periods) (length periods))) 32 0))
+-- the place of the first such task, counted from 1; 0 where there is none
+abbrev pub firstOut : List ℕ → List ℕ → ℕ
+firstOut periods costs = first (outOfRange periods costs) (length periods)
 
--- those rows, and the rows below them
+abbrev pub firstFall : List ℕ → ℕ
+firstFall periods = first (falls periods) (length periods)
+
+-- rows 30, 31 on all tasks, 32, and the rows below them. "For 31 and 32" the detail is "the first such task's place, counted from 1"
 unfoldable pub tasksRows : List ℕ → List ℕ → Reply → Reply
-tasksRows periods costs rest = row (ltb 0 (tasksRow periods costs)) (tasksRow periods costs) 0 rest
+tasksRows periods costs rest =
+    row (miscounted periods costs) 30 0
+    (row (ltb 0 (firstOut periods costs)) 31 (firstOut periods costs)
+    (row (ltb 0 (firstFall periods)) 32 (firstFall periods)
+    rest))
 
 -- rows 33, 35
 unfoldable pub supplyReply : ℕ → ℕ → ℕ → Reply

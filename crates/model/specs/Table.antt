@@ -1,5 +1,6 @@
--- Document 01, "Reply numbers", rows 30 to 35, as plain facts: where each applies, that the first from the top that does is given, and
--- what is given where none does. Proved of everything that can be asked in proofs/Table. Assumes nothing.
+-- Document 01, "Reply numbers", rows 30 to 35, with document 02's details, as plain facts: where each applies and what its detail is, that
+-- the first from the top that does is given, and what is given where none does. Proved of everything that can be asked in proofs/Table.
+-- Assumes nothing.
 use Prim.Native.Nat.{ℕ, _-_, _≤_, _<_}
 use mathlib.Core.Path.{_≡_}
 use mathlib.Core.Logic.{_⊎_, _↔_}
@@ -22,13 +23,17 @@ OutOfRange P B = Outside 1 2000 P ⊎ Outside 1 P B
 abbrev pub Miscounted : Work → Type 0
 Miscounted w = (length (w .periods) ≡ 0) ⊎ (16 < length (w .periods)) ⊎ (length (w .periods) ≡ length (w .costs) → ⊥)
 
--- "a task period out of range, or a cost not 1 to its period": of a task k, whichever
-abbrev pub TaskOut : Work → Type 0
-TaskOut w = (k : ℕ) × (1 ≤ k) × (k ≤ length (w .periods)) × OutOfRange (getD (w .periods) (k - 1) 0) (getD (w .costs) (k - 1) 0)
+-- "a task period out of range, or a cost not 1 to its period": of the task at place k, counted from 1
+abbrev pub TaskOut : Work → ℕ → Type 0
+TaskOut w k = (1 ≤ k) × (k ≤ length (w .periods)) × OutOfRange (getD (w .periods) (k - 1) 0) (getD (w .costs) (k - 1) 0)
 
--- "a task's period is below the one before": of a task k, whichever but the first
-abbrev pub PeriodFalls : Work → Type 0
-PeriodFalls w = (k : ℕ) × (2 ≤ k) × (k ≤ length (w .periods)) × (getD (w .periods) (k - 1) 0 < getD (w .periods) (k - 2) 0)
+-- "a task's period is below the one before": of the task at place k, whichever but the first
+abbrev pub PeriodFalls : Work → ℕ → Type 0
+PeriodFalls w k = (2 ≤ k) × (k ≤ length (w .periods)) × (getD (w .periods) (k - 1) 0 < getD (w .periods) (k - 2) 0)
+
+-- "the first such task's place": so it is with the task at place k, and with none before it. Where there is such a task there is a first
+abbrev pub FirstTask : (Work → ℕ → Type 0) → ℕ → Work → Type 0
+FirstTask Such k w = Such w k × ((j : ℕ) → j < k → Such w j → ⊥)
 
 -- said of the tasks; a supply has none
 abbrev pub OfTasks : (Work → Type 0) → Asked → Type 0
@@ -62,28 +67,28 @@ NonePasses (check w P B) = ⊥
 NonePasses (least w P) = NoBudget P (w .periods) (w .costs)
 NonePasses (best w P-max) = NoShare P-max (w .periods) (w .costs)
 
--- the row with this number concerns what is asked, and applies
-pub data Row (asked : Asked) : ℕ → Type 0 where
-  row-30 : OfTasks Miscounted asked → Row asked 30
-  row-31 : OfTasks TaskOut asked → Row asked 31
-  row-32 : OfTasks PeriodFalls asked → Row asked 32
-  row-33 : ShareOut asked → Row asked 33
-  row-35 : LengthOut asked → Row asked 35
-  row-34 : NonePasses asked → Row asked 34
+-- the row with this number concerns what is asked, applies, and has this detail: for 31 and 32 "the first such task's place, counted from 1"
+pub data Row (asked : Asked) : ℕ → ℕ → Type 0 where
+  row-30 : OfTasks Miscounted asked → Row asked 30 0
+  row-31 : (k : ℕ) → OfTasks (FirstTask TaskOut k) asked → Row asked 31 k
+  row-32 : (k : ℕ) → OfTasks (FirstTask PeriodFalls k) asked → Row asked 32 k
+  row-33 : ShareOut asked → Row asked 33 0
+  row-35 : LengthOut asked → Row asked 35 0
+  row-34 : NonePasses asked → Row asked 34 0
 
 -- the table from the top
 abbrev pub rows : List ℕ
 rows = 30 ∷ 31 ∷ 32 ∷ 33 ∷ 35 ∷ 34 ∷ []
 
 -- "the first from the top that applies is given, whatever its number"; places in the table are counted from 0
-pub record First (asked : Asked) (number : ℕ) : Type 0 where
+pub record First (asked : Asked) (number detail : ℕ) : Type 0 where
   pub place : ℕ
   pub stands : getD rows place 0 ≡ number
-  pub applies : Row asked number
-  pub none-above : (p : ℕ) → p < place → Row asked (getD rows p 0) → ⊥
+  pub applies : Row asked number detail
+  pub none-above : (p d : ℕ) → p < place → Row asked (getD rows p 0) d → ⊥
 
 abbrev pub NoRow : Asked → Type 0
-NoRow asked = (number : ℕ) → Row asked number → ⊥
+NoRow asked = (number detail : ℕ) → Row asked number detail → ⊥
 
 -- these values are the result: "passes" is 1, "doesn't" is 0
 abbrev pub Result : Asked → List ℕ → Type 0
@@ -94,12 +99,12 @@ Result (check w P B) values =
 Result (least w P) values = (B : ℕ) × (values ≡ B ∷ []) × IsLeast P (w .periods) (w .costs) B
 Result (best w P-max) values = (s : Share) × (values ≡ s .period ∷ s .budget ∷ []) × IsBest P-max (w .periods) (w .costs) s
 
--- "Given exactly when", with detail 0; and there is a result exactly when no row applies
+-- "Given exactly when", with the row's detail; and there is a result exactly when no row applies
 pub record Table (asked : Asked) : Type 0 where
-  pub refused : (number detail : ℕ) → replyTo asked ≡ refuses number detail ↔ First asked number × (detail ≡ 0)
+  pub refused : (number detail : ℕ) → replyTo asked ≡ refuses number detail ↔ First asked number detail
   pub given : (values : List ℕ) → replyTo asked ≡ gives values ↔ NoRow asked × Result asked values
   pub answered : ((values : List ℕ) × (replyTo asked ≡ gives values)) ↔ NoRow asked
 
 -- rows 30 to 33 do not apply
 abbrev pub Accepted : Asked → Type 0
-Accepted asked = (number : ℕ) → number ≤ 33 → Row asked number → ⊥
+Accepted asked = (number detail : ℕ) → number ≤ 33 → Row asked number detail → ⊥

@@ -120,7 +120,7 @@ fn busy(n: u64, d: u64, last: Moment, timer: Moment) -> Event
     }
 }
 
-// A change that row 4, 5, 7, 8 or 6 refuses. Only a card of 32 is full.
+// A change that row 4, 11, 7, 8 or 6 refuses. Only a card of 32 is full.
 fn wrong_change(sel: u64, n: u64, who: u64, d: u64, kind: u8) -> Change
     requires { ⌜ n ≤ 9999 ⌝ }
 {

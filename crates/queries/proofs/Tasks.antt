@@ -12,13 +12,13 @@ use lib.Seq.{ext-getD, getD-take, getD-drop, length-take-le}
 use borrow.Author.Tests.{lt-leb, ltb-true, ltb-false}
 use Rattle.model.specs.Reply.{Reply}
 use Rattle.model.specs.Rows.{miscounted, tasksRows, demandReply, checkReply, leastReply, bestReply}
+use Rattle.model.proofs.TaskRows.{by-30}
 use Rattle.queries.specs.declared.ask.Word.{Word}
 use Rattle.queries.specs.declared.ask.Word.the-variants.{Supply, Demand, Check, Least, Best}
 use Rattle.queries.specs.Answer.{periodsOf, costsOf, periods, costs, replyOf}
 use Rattle.queries.specs.Meaning.{heads, everyOther, wordReply, replyWith}
 use Rattle.queries.proofs.Readings.{capped}
 use Rattle.queries.proofs.Kept.{Kept, valueAt}
-use Rattle.queries.proofs.AlikeTasks.{rows-30}
 
 abbrev skipped : Bool → ℕ
 skipped true = 0
@@ -102,7 +102,7 @@ few-or-many n = go (ltb 34 n) refl
 
 module _ (ps es ps′ es′ : List ℕ) (X X′ : Reply) where
   both-many : 16 < length ps → 16 < length ps′ → tasksRows ps es X ≡ tasksRows ps′ es′ X′
-  both-many h h′ = rows-30 ps es X (too-many ps es h) ∙ sym (rows-30 ps′ es′ X′ (too-many ps′ es′ h′))
+  both-many h h′ = by-30 ps es (too-many ps es h) X ∙ sym (by-30 ps′ es′ (too-many ps′ es′ h′) X′)
 
 many-reply : (w : Word) (a b c : ℕ) (ps es ps′ es′ : List ℕ) → 16 < length ps → 16 < length ps′
     → wordReply w a b c ps es ≡ wordReply w a b c ps′ es′

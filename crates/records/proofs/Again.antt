@@ -107,12 +107,12 @@ module _ (s : List ℕ) (h : AreBytes s) where
   in-range-again k n tick-has = ((number-below 8 3, tt), refl)
 
 -- what was read is in range, and its record is the bytes that were read
-pub read-again : (s : List ℕ) (e : Event) → AreBytes s → readSpec s ≡ Got e
+pub read-again : (offset : ℕ) (s : List ℕ) (e : Event) → AreBytes s → readSpec offset s ≡ Got e
     → InRange (paperEvent e) × (recordOf (paperEvent e) ≡ take (sizeOf e) s)
 unfolding call
-read-again s e h r =
-    let w : Whole s e = read-whole s e r in
-    let n : sizeOf e ≡ 3 + payload (tag s) = read-size s e r .0 in (
+read-again offset s e h r =
+    let w : Whole s e = read-whole offset s e r in
+    let n : sizeOf e ≡ 3 + payload (tag s) = read-size offset s e r .0 in (
       subst InRange (sym (w .same)) (in-range-again s h (tag s) (payload (tag s)) (known-layout (tag s) (w .known-tag))),
       ap recordOf (w .same) ∙ record-again s h (w .known-tag) (w .said) (w .fits) ∙ ap (λ (k : ℕ). take k s) (sym n),
     )

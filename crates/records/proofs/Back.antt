@@ -73,9 +73,9 @@ module _ (now : ℕ) (t : List ℕ) where
   asked-back tick n h = refl
 
 -- what is encoded reads back, whatever lies behind it
-pub reads-back : (c : Call) → InRange c → (t : List ℕ) → reading (recordOf c ++ t) ≡ event c
+pub reads-back : (offset : ℕ) (c : Call) → InRange c → (t : List ℕ) → reading offset (recordOf c ++ t) ≡ event c
 unfolding call whole
-reads-back c h t =
+reads-back offset c h t =
     let s : List ℕ = whole (c .now) t (c .asked) in
     let long : 3 ≤ length (recordOf c) = omega (arith, length-record c) in
     let g : tag s ≡ tagOf (c .asked) = tag-append (recordOf c) t long ∙ record-tag c in
@@ -83,12 +83,13 @@ reads-back c h t =
     let l : lengthSaid s ≡ payload (tag s) = said-append (recordOf c) t long ∙ record-said c ∙ ap payload (sym g) in
     let p : 3 + payload (tag s) ≤ length s = omega (arith, ap payload g, length-record c, length-append (recordOf c) t) in
     let a : asked (tag s) s ≡ c .asked = ap (λ (n : ℕ). asked n s) g ∙ asked-back (c .now) t (c .asked) (h .1) (h .0 .1) in
-    whole-record s k l p ∙ ap event (same-call (time-back (c .now) t (c .asked) (h .0 .0)) a)
+    whole-record offset s k l p ∙ ap event (same-call (time-back (c .now) t (c .asked) (h .0 .0)) a)
 
-pub event-reads-back : (e : Event) → InRange (paperEvent e) → (t : List ℕ) → readSpec (recordOf (paperEvent e) ++ t) ≡ Got e
-event-reads-back e h t =
+pub event-reads-back : (offset : ℕ) (e : Event) → InRange (paperEvent e) → (t : List ℕ)
+    → readSpec offset (recordOf (paperEvent e) ++ t) ≡ Got e
+event-reads-back offset e h t =
     let c = paperEvent e in
-    answers (recordOf c ++ t) (event c) (reads-back c h t) ∙ ap Got (said-again e)
+    answers offset (recordOf c ++ t) (event c) (reads-back offset c h t) ∙ ap Got (said-again e)
 
 fields-below : (a : Change) → AreBytes (fieldsOf a)
 fields-below (admit d) =
@@ -113,12 +114,12 @@ record-bytes c =
     (bytes-then 2 (payload n) (bytesOf 8 (c .now) ++ f) (bytes-then 8 (c .now) f (fields-below (c .asked))))
 
 -- what `write` wrote reads back as the event
-pub written-reads-back : (e : Event) (out : List ℕ) → OfItsTypes (paperEvent e) → isWritten e out ≡ true
-    → (writtenSize e out ≡ sizeOf e) × (readSpec (outAfter e out) ≡ Got e)
+pub written-reads-back : (offset : ℕ) (e : Event) (out : List ℕ) → OfItsTypes (paperEvent e) → isWritten e out ≡ true
+    → (writtenSize e out ≡ sizeOf e) × (readSpec offset (outAfter e out) ≡ Got e)
 unfolding isWritten writtenSize outAfter
-written-reads-back e out h g =
+written-reads-back offset e out h g =
     let n : has24Bits (paperEvent e .asked) ≡ true = and-true (has24Bits (paperEvent e .asked)) (leb (sizeOf e) (length out)) g .0 in
-    (rw g, rw g (event-reads-back e (h, n) (drop (sizeOf e) out)))
+    (rw g, rw g (event-reads-back offset e (h, n) (drop (sizeOf e) out)))
 
 -- a proper part of a record waits for the rest
 pub part-waits : (c : Call) (k : ℕ) → k < length (recordOf c) → waits (take k (recordOf c)) ≡ true
@@ -146,5 +147,5 @@ part-waits c k h = go (leb 3 k) refl
         waits-short s long (ap known g ∙ record-known c) e (omega (arith, size, ap payload g, length-record c))
 
 -- a proper part of a record is answered by 20
-pub part-read : (c : Call) (k : ℕ) → k < length (recordOf c) → readSpec (take k (recordOf c)) ≡ readSaid (no 20)
-part-read c k h = read-waits (take k (recordOf c)) (part-waits c k h)
+pub part-read : (offset : ℕ) (c : Call) (k : ℕ) → k < length (recordOf c) → readSpec offset (take k (recordOf c)) ≡ readSaid (no offset 20)
+part-read offset c k h = read-waits offset (take k (recordOf c)) (part-waits c k h)

@@ -108,48 +108,30 @@ module _ (s t : List ℕ) where
       let m : time (s ++ t) ≡ time s = number-append 8 3 s t (omega (arith, payload-bounds (tag s) k)) in
       same-call m (ap (λ (n : ℕ). asked n (s ++ t)) g ∙ asked-append (tag s) (payload (tag s)) (known-layout (tag s) k) p)
 
-  append-case : Case s → waits s ≡ false → reading (s ++ t) ≡ reading s
-  append-case (header h) w = clash (sym (waits-header s h) ∙ w)
-  append-case (unknown h k) w =
-      unknown-tag (s ++ t) (omega (arith, length-append s t)) (ap known (tag-append h) ∙ k) ∙ sym (unknown-tag s h k)
-  append-case (other h k n) w =
+  append-case : (offset : ℕ) → Case s → waits s ≡ false → reading offset (s ++ t) ≡ reading offset s
+  append-case offset (header h) w = clash (sym (waits-header s h) ∙ w)
+  append-case offset (unknown h k) w =
+      unknown-tag offset (s ++ t) (omega (arith, length-append s t)) (ap known (tag-append h) ∙ k) ∙ sym (unknown-tag offset s h k)
+  append-case offset (other h k n) w =
       let g : tag (s ++ t) ≡ tag s = tag-append h in
-      other-length (s ++ t) (omega (arith, length-append s t)) (ap known g ∙ k) (λ e. n (sym (said-append h) ∙ e ∙ ap payload g))
-      ∙ sym (other-length s h k n)
-  append-case (short h k e p) w = clash (sym (waits-short s h k e p) ∙ w)
-  append-case (whole h k e p) w =
+      other-length offset (s ++ t) (omega (arith, length-append s t)) (ap known g ∙ k) (λ e. n (sym (said-append h) ∙ e ∙ ap payload g))
+      ∙ sym (other-length offset s h k n)
+  append-case offset (short h k e p) w = clash (sym (waits-short s h k e p) ∙ w)
+  append-case offset (whole h k e p) w =
       let g : tag (s ++ t) ≡ tag s = tag-append h in
-      whole-record (s ++ t) (ap known g ∙ k) (said-append h ∙ e ∙ ap payload (sym g)) (omega (arith, ap payload g, length-append s t))
+      whole-record offset (s ++ t) (ap known g ∙ k) (said-append h ∙ e ∙ ap payload (sym g))
+      (omega (arith, ap payload g, length-append s t))
       ∙ ap event (call-append k p)
-      ∙ sym (whole-record s k e p)
-
--- "Bytes behind a whole record aren't looked at", nor behind an unknown tag or another length
-pub behind : (s t : List ℕ) → waits s ≡ false → reading (s ++ t) ≡ reading s
-behind s t w = append-case s t (case s) w
-
-pub read-behind : (s t : List ℕ) → waits s ≡ false → readSpec (s ++ t) ≡ readSpec s
-unfolding readSpec
-read-behind s t w = ap readSaid (behind s t w)
-
-waits-20 : (s : List ℕ) → Case s → waits s ≡ true → reading s ≡ no 20
-waits-20 s (header h) w = short-header s h
-waits-20 s (unknown h k) w = clash (sym w ∙ settled-unknown s h k)
-waits-20 s (other h k n) w = clash (sym w ∙ settled-other s h k n)
-waits-20 s (short h k e p) w = short-payload s h k e p
-waits-20 s (whole h k e p) w = clash (sym w ∙ settled-whole s h k e p)
-
--- what waits is answered by 20
-pub read-waits : (s : List ℕ) → waits s ≡ true → readSpec s ≡ readSaid (no 20)
-read-waits s w = answers s (no 20) (waits-20 s (case s) w)
+      ∙ sym (whole-record offset s k e p)
 
 zeros : (n : ℕ) → AreBytes (replicate n 0)
 zeros zero = tt
 zeros (suc n) = (omega arith, zeros n)
 
 -- the number of an answer, 0 of an event
-unfoldable pub told : Read → ℕ
-told (Got e) = 0
-told (No r) = r .number
+unfoldable pub numberOf : Read → ℕ
+numberOf (Got e) = 0
+numberOf (No r) = r .number
 
 third-zero : (s : List ℕ) → length s < 3 → getD (s ++ replicate 21 0) 2 0 ≡ 0
 third-zero [] h = refl
@@ -157,44 +139,66 @@ third-zero (a ∷ []) h = refl
 third-zero (a ∷ b ∷ []) h = refl
 third-zero (a ∷ b ∷ c ∷ s) h = absurd (omega arith)
 
-header-changes : (s : List ℕ) → length s < 3 → told (readSpec (s ++ replicate 21 0)) ≡ 20 → ⊥
-unfolding told
-header-changes s h = go (known (tag x)) refl
-  where
-    x : List ℕ
-    x = s ++ replicate 21 0
+-- of the record that begins at any offset
+module _ (offset : ℕ) where
+  -- "Bytes behind a whole record aren't looked at", nor behind an unknown tag or another length
+  pub behind : (s t : List ℕ) → waits s ≡ false → reading offset (s ++ t) ≡ reading offset s
+  behind s t w = append-case s t offset (case s) w
 
-    long : 3 ≤ length x
-    long = omega (arith, length-append s (replicate 21 0))
+  pub read-behind : (s t : List ℕ) → waits s ≡ false → readSpec offset (s ++ t) ≡ readSpec offset s
+  unfolding readSpec
+  read-behind s t w = ap readSaid (behind s t w)
 
-    other-said : known (tag x) ≡ true → lengthSaid x ≡ payload (tag x) → ⊥
-    other-said k e = omega (arith, third-zero s h, payload-bounds (tag x) k)
+  waits-20 : (s : List ℕ) → Case s → waits s ≡ true → reading offset s ≡ no offset 20
+  waits-20 s (header h) w = short-header offset s h
+  waits-20 s (unknown h k) w = clash (sym w ∙ settled-unknown s h k)
+  waits-20 s (other h k n) w = clash (sym w ∙ settled-other s h k n)
+  waits-20 s (short h k e p) w = short-payload offset s h k e p
+  waits-20 s (whole h k e p) w = clash (sym w ∙ settled-whole s h k e p)
 
-    go : (k : Bool) → known (tag x) ≡ k → told (readSpec x) ≡ 20 → ⊥
-    go true k n = omega (arith, ap told (answers x (no 22) (other-length x long k (other-said k))))
-    go false k n = omega (arith, ap told (answers x (no 21) (unknown-tag x long k)))
+  -- what waits is answered by 20
+  pub read-waits : (s : List ℕ) → waits s ≡ true → readSpec offset s ≡ readSaid (no offset 20)
+  read-waits s w = answers offset s _ (waits-20 s (case s) w)
 
-waits-changes : (s : List ℕ) → Case s → waits s ≡ true → told (readSpec (s ++ replicate 21 0)) ≡ 20 → ⊥
-unfolding told
-waits-changes s (header h) w n = header-changes s h n
-waits-changes s (unknown h k) w n = clash (sym w ∙ settled-unknown s h k)
-waits-changes s (other h k d) w n = clash (sym w ∙ settled-other s h k d)
-waits-changes s (short h k e p) w n =
-    let t : List ℕ = replicate 21 0 in
-    let x : List ℕ = s ++ t in
-    let g : tag x ≡ tag s = tag-append s t h in
-    let l : 3 + payload (tag x) ≤ length x = omega (arith, ap payload g, payload-bounds (tag s) k, length-append s t) in
-    omega (arith, ap told (answers x (event (call x)) (whole-record x (ap known g ∙ k) (said-append s t h ∙ e ∙ ap payload (sym g)) l)))
-waits-changes s (whole h k e p) w n = clash (sym w ∙ settled-whole s h k e p)
+  header-changes : (s : List ℕ) → length s < 3 → numberOf (readSpec offset (s ++ replicate 21 0)) ≡ 20 → ⊥
+  unfolding numberOf
+  header-changes s h = go (known (tag x)) refl
+    where
+      x : List ℕ
+      x = s ++ replicate 21 0
 
--- the answer waits exactly where bytes exist that change it
-pub waits-exactly : (s : List ℕ) → waits s ≡ true ↔ ((t : List ℕ) × AreBytes t × (readSpec (s ++ t) ≡ readSpec s → ⊥))
-unfolding told
-waits-exactly s = (
-  (λ w. (replicate 21 0, zeros 21, λ e. waits-changes s (case s) w (ap told (e ∙ read-waits s w)))),
-  λ x. go (waits s) refl x,
-)
-  where
-    go : (b : Bool) → waits s ≡ b → ((t : List ℕ) × AreBytes t × (readSpec (s ++ t) ≡ readSpec s → ⊥)) → b ≡ true
-    go true w x = refl
-    go false w x = absurd (x .2 (read-behind s (x .0) w))
+      long : 3 ≤ length x
+      long = omega (arith, length-append s (replicate 21 0))
+
+      other-said : known (tag x) ≡ true → lengthSaid x ≡ payload (tag x) → ⊥
+      other-said k e = omega (arith, third-zero s h, payload-bounds (tag x) k)
+
+      go : (k : Bool) → known (tag x) ≡ k → numberOf (readSpec offset x) ≡ 20 → ⊥
+      go true k n = omega (arith, ap numberOf (answers offset x _ (other-length offset x long k (other-said k))))
+      go false k n = omega (arith, ap numberOf (answers offset x _ (unknown-tag offset x long k)))
+
+  waits-changes : (s : List ℕ) → Case s → waits s ≡ true → numberOf (readSpec offset (s ++ replicate 21 0)) ≡ 20 → ⊥
+  unfolding numberOf
+  waits-changes s (header h) w n = header-changes s h n
+  waits-changes s (unknown h k) w n = clash (sym w ∙ settled-unknown s h k)
+  waits-changes s (other h k d) w n = clash (sym w ∙ settled-other s h k d)
+  waits-changes s (short h k e p) w n =
+      let t : List ℕ = replicate 21 0 in
+      let x : List ℕ = s ++ t in
+      let g : tag x ≡ tag s = tag-append s t h in
+      let l : 3 + payload (tag x) ≤ length x = omega (arith, ap payload g, payload-bounds (tag s) k, length-append s t) in
+      let r = whole-record offset x (ap known g ∙ k) (said-append s t h ∙ e ∙ ap payload (sym g)) l in
+      omega (arith, ap numberOf (answers offset x _ r))
+  waits-changes s (whole h k e p) w n = clash (sym w ∙ settled-whole s h k e p)
+
+  -- the answer waits exactly where bytes exist that change it
+  pub waits-exactly : (s : List ℕ) → waits s ≡ true ↔ ((t : List ℕ) × AreBytes t × (readSpec offset (s ++ t) ≡ readSpec offset s → ⊥))
+  unfolding numberOf
+  waits-exactly s = (
+    (λ w. (replicate 21 0, zeros 21, λ e. waits-changes s (case s) w (ap numberOf (e ∙ read-waits s w)))),
+    λ x. go (waits s) refl x,
+  )
+    where
+      go : (b : Bool) → waits s ≡ b → ((t : List ℕ) × AreBytes t × (readSpec offset (s ++ t) ≡ readSpec offset s → ⊥)) → b ≡ true
+      go true w x = refl
+      go false w x = absurd (x .2 (read-behind s (x .0) w))

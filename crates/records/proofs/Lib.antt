@@ -1,5 +1,6 @@
 -- The laws that the functions' proofs cite, and the theorems. Assumes nothing.
 pub mod Paper
+pub mod Offset
 pub mod Tags
 pub mod Cases
 pub mod Laid

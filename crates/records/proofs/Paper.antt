@@ -51,6 +51,6 @@ pub same-read : (a b : Read) → paperRead a ≡ paperRead b → a ≡ b
 same-read a b e = sym (said-paper a) ∙ ap readSaid e ∙ said-paper b
 
 -- the one answer that the promise of `read` allows
-pub read-is : (s : List ℕ) (r : Read) → paperRead r ≡ reading s → r ≡ readSpec s
+pub read-is : (offset : ℕ) (s : List ℕ) (r : Read) → paperRead r ≡ reading offset s → r ≡ readSpec offset s
 unfolding readSpec
-read-is s r e = sym (said-paper r) ∙ ap readSaid e
+read-is offset s r e = sym (said-paper r) ∙ ap readSaid e

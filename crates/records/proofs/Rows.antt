@@ -1,5 +1,5 @@
 -- The table of the record checks: a number is given exactly when a check with it is the first that applies, and an event exactly when none
--- does, with the call that the bytes say. Of every list of bytes. Assumes nothing.
+-- does, with the call that the bytes say. The detail of a number is the offset. Of every list of bytes and every offset. Assumes nothing.
 use Prim.Native.Nat.{ℕ, suc, _+_, _≤_, _<_}
 use mathlib.Core.Path.{_≡_, refl, ap, sym, _∙_, subst}
 use mathlib.Core.Bool.{Bool, true, false, not}
@@ -18,26 +18,28 @@ use Rattle.records.specs.Record.{Reading, event, refused, row, known, pa
 use Rattle.records.specs.Record.{tag, lengthSaid, time, identifier, description, asked, call}
 use Rattle.records.specs.Rows.{Begins, Layout, admit-has, wake-has, block-has, remove-has, tick-has}
 use Rattle.records.specs.Rows.{Check, header-short, tag-unknown, length-other, payload-short, First, NoCheck}
-use Rattle.records.specs.Rows.{Says, says-admit, says-wake, says-block, says-remove, says-tick, Table}
+use Rattle.records.specs.Rows.{Says, says-admit, says-wake, says-block, says-remove, says-tick, Detail, Table}
 use Rattle.records.proofs.Paper.{same-call, same-terms}
+use Rattle.records.proofs.Offset.{detail-is, told-detail}
 use Rattle.records.proofs.Tags.{known-layout, layout-known}
 use Rattle.records.proofs.Fields.{Stand, begins, stand}
 
-module _ (s : List ℕ) where
+module _ (offset : ℕ) (s : List ℕ) where
   -- none of the checks before this place applies
   abbrev Before : ℕ → Type 0
   Before place = (p n : ℕ) → p < place → Check s p n → ⊥
 
   -- what an answer says of the bytes
   abbrev Means : Reading → Type 0
-  Means (refused r) = First s (r .number) × (r .detail ≡ 0)
+  Means (refused r) = First s (r .number) × Detail offset (r .detail)
   Means (event c) = NoCheck s × Says s c
 
   -- a check either applies, and is the first, or those after it are left
-  step : (o : Reading) (place number : ℕ) (t : Bool) (after : Reading) → row t number after ≡ o
+  step : (o : Reading) (place number : ℕ) (t : Bool) (after : Reading) → row offset t number after ≡ o
       → (t ≡ true → Check s place number) → (t ≡ false → (n : ℕ) → Check s place n → ⊥)
       → (t ≡ false → after ≡ o → Before (suc place) → Means o) → Before place → Means o
-  step o place number true after e f g next b = subst Means e (record { place = place; applies = f refl; none-before = b }, refl)
+  step o place number true after e f g next b =
+      subst Means e (record { place = place; applies = f refl; none-before = b }, told-detail offset)
   step o place number false after e f g next b = next refl e past
     where
       past : Before (suc place)
@@ -107,13 +109,13 @@ module _ (s : List ℕ) where
   has = payload (tag s)
 
   abbrev from-4 : Reading
-  from-4 = row (ltb (length s) (3 + has)) 20 (event (call s))
+  from-4 = row offset (ltb (length s) (3 + has)) 20 (event (call s))
 
   abbrev from-3 : Reading
-  from-3 = row (not (eqb (lengthSaid s) has)) 22 from-4
+  from-3 = row offset (not (eqb (lengthSaid s) has)) 22 from-4
 
   abbrev from-2 : Reading
-  from-2 = row (not (known (tag s))) 21 from-3
+  from-2 = row offset (not (known (tag s))) 21 from-3
 
   payload-check : (o : Reading) → 3 ≤ length s → Layout (tag s) has → lengthSaid s ≡ has → from-4 ≡ o → Before 4 → Means o
   unfolding call
@@ -149,7 +151,7 @@ module _ (s : List ℕ) where
           let b = header h in
           tag-unknown (tag s) (b .0, b .1, b .2, b .3, b .4, tt) (λ n l. clash (sym (layout-known (tag s) n l .0) ∙ not-true _ f))
 
-  means : (o : Reading) → reading s ≡ o → Means o
+  means : (o : Reading) → reading offset s ≡ o → Means o
   unfolding reading
   means o e =
       step o 1 20 (ltb (length s) 3) _ e (λ f. header-short (omega (arith, tests))) (λ f n k. omega (arith, tests, of-1 n k))
@@ -158,7 +160,7 @@ module _ (s : List ℕ) where
   -- and a whole record is read as the call that it says
 
   whole : (k n : ℕ) → Layout k n → tag s ≡ k → lengthSaid s ≡ n → 3 + n ≤ length s
-      → reading s ≡ event (record { now = time s; asked = asked k s })
+      → reading offset s ≡ event (record { now = time s; asked = asked k s })
   unfolding reading call
   whole k n l t e p =
       let h = layout-known k n l in
@@ -171,12 +173,12 @@ module _ (s : List ℕ) where
       (ap (λ (x : ℕ). event (record { now = time s; asked = asked x s })) t)
 
   names : (k now tunnel : ℕ) → Layout k 11 → Begins s ((k, 1) ∷ (11, 2) ∷ (now, 8) ∷ (tunnel, 3) ∷ [])
-      → (reading s ≡ event (record { now = time s; asked = asked k s })) × (time s ≡ now) × (identifier s ≡ tunnel)
+      → (reading offset s ≡ event (record { now = time s; asked = asked k s })) × (time s ≡ now) × (identifier s ≡ tunnel)
   names k now tunnel l b =
       let q = stand s 0 ((k, 1) ∷ (11, 2) ∷ (now, 8) ∷ (tunnel, 3) ∷ []) (omega arith) b in
       (whole k 11 l (sym (zero-add (tag s)) ∙ q .1) (q .2 .1) (q .2 .2 .2 .0), q .2 .2 .1, q .2 .2 .2 .1)
 
-  said : (c : Call) → Says s c → reading s ≡ event c
+  said : (c : Call) → Says s c → reading offset s ≡ event c
   said c (says-admit d e b) =
       let terms : List (ℕ × ℕ) = (d .tunnel, 3) ∷ (d .period, 4) ∷ (d .capacity, 4) ∷ (d .priority, 1) ∷ (d .kind, 1) ∷ [] in
       let q = stand s 0 ((1, 1) ∷ (21, 2) ∷ (c .now, 8) ∷ terms) (omega arith) b in
@@ -210,21 +212,23 @@ module _ (s : List ℕ) where
       one-number p a b (length-other t i x h) (length-other u j y k) = refl
       one-number p a b (payload-short t i x h) (payload-short u j y k) = refl
 
-  pub table : Table s
+  pub table : Table offset s
   table =
       record {
-        refuses = λ n d. (means (refused (record { number = n; detail = d })), λ h. given n d h (reading s) refl);
+        refuses = λ n d. (means (refused (record { number = n; detail = d })), λ h. given n d h (reading offset s) refl);
         gives = λ c. (λ e. means (event c) e .1, said c);
-        reads = (λ x. means (event (x .0)) (x .1) .0, λ h. read h (reading s) refl);
+        reads = (λ x. means (event (x .0)) (x .1) .0, λ h. read h (reading offset s) refl);
       }
     where
-      given : (n d : ℕ) → First s n × (d ≡ 0) → (o : Reading) → reading s ≡ o → reading s ≡ refused (record { number = n; detail = d })
+      given : (n d : ℕ) → First s n × Detail offset d → (o : Reading) → reading offset s ≡ o
+          → reading offset s ≡ refused (record { number = n; detail = d })
       given n d h (event c) e = absurd (means (event c) e .0 (h .0 .place) n (h .0 .applies))
       given n d h (refused r) e =
           let m = means (refused r) e in
           e ∙ ap (λ (x : ℕ). refused (record { number = x; detail = r .detail })) (one-first (r .number) n (m .0) (h .0))
-          ∙ ap (λ (x : ℕ). refused (record { number = n; detail = x })) (m .1 ∙ sym (h .1))
+          ∙ ap (λ (x : ℕ). refused (record { number = n; detail = x }))
+          (detail-is offset (r .detail) (m .1) ∙ sym (detail-is offset d (h .1)))
 
-      read : NoCheck s → (o : Reading) → reading s ≡ o → (c : Call) × (reading s ≡ event c)
+      read : NoCheck s → (o : Reading) → reading offset s ≡ o → (c : Call) × (reading offset s ≡ event c)
       read h (event c) e = (c, e)
       read h (refused r) e = let f = means (refused r) e .0 in absurd (h (f .place) (r .number) (f .applies))

@@ -53,6 +53,6 @@ abbrev pub readSaid : Reading → Read
 readSaid (event c) = Got (eventSaid (c .now) (c .asked))
 readSaid (refused r) = No (record { number = r .number; detail = r .detail })
 
--- the answer for the record that begins the bytes
-unfoldable pub readSpec : List ℕ → Read
-readSpec s = readSaid (reading s)
+-- the answer for the record that begins the bytes, at this offset from the start of input
+unfoldable pub readSpec : ℕ → List ℕ → Read
+readSpec offset s = readSaid (reading offset s)

@@ -1,6 +1,6 @@
--- Document 01, "Event records and lines", with document 02's kind: what a record says, in plain numbers, and the checks in their order.
--- Assumes nothing.
-use Prim.Native.Nat.{ℕ, _+_}
+-- Document 01, "Event records and lines", with document 02's kind and offset: what a record says, in plain numbers, and the checks in
+-- their order. Assumes nothing.
+use Prim.Native.Nat.{ℕ, _+_, min}
 use mathlib.Core.Bool.{Bool, true, false, cond, not, _&&_, _||_}
 use mathlib.Core.List.{List}
 use mathlib.Core.Option.{Option, none, some, Option·getD}
@@ -69,21 +69,29 @@ asked tag s =
 unfoldable pub call : List ℕ → Call
 call s = record { now = time s; asked = asked (tag s) s }
 
--- a refusal with that number; its detail is 0
-abbrev pub no : ℕ → Reading
-no number = refused (record { number = number; detail = 0 })
+-- a detail has 64 bits: an offset that is larger than all of these is told as the largest
+abbrev pub largestDetail : ℕ
+largestDetail = 18_446_744_073_709_551_615
+
+abbrev pub told : ℕ → ℕ
+told offset = min offset largestDetail
+
+-- a refusal with that number, of the record that begins at this offset from the start of input: "the detail becomes the byte offset, from
+-- the start of input, at which the bad record begins"
+abbrev pub no : ℕ → ℕ → Reading
+no offset number = refused (record { number = number; detail = told offset })
 
 -- a check: where its test applies, its number; else the checks after it
-abbrev pub row : Bool → ℕ → Reading → Reading
-row applies number after = cond applies (no number) after
+abbrev pub row : ℕ → Bool → ℕ → Reading → Reading
+row offset applies number after = cond applies (no offset number) after
 
--- "header short 20 (no bytes at all too), tag 21, length 22, payload short 20"
-unfoldable pub reading : List ℕ → Reading
-reading s =
-    row (ltb (length s) 3) 20
-    (row (not (known (tag s))) 21
-    (row (not (eqb (lengthSaid s) (payload (tag s)))) 22
-    (row (ltb (length s) (3 + payload (tag s))) 20
+-- the record that begins at this offset: "header short 20 (no bytes at all too), tag 21, length 22, payload short 20"
+unfoldable pub reading : ℕ → List ℕ → Reading
+reading offset s =
+    row offset (ltb (length s) 3) 20
+    (row offset (not (known (tag s))) 21
+    (row offset (not (eqb (lengthSaid s) (payload (tag s)))) 22
+    (row offset (ltb (length s) (3 + payload (tag s))) 20
     (event (call s)))))
 
 -- more bytes can change the answer: there are fewer than three, or a known tag with its length has a short payload

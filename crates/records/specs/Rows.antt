@@ -1,7 +1,7 @@
--- Document 01, "Event records and lines" with rows 20 to 22 of "Reply numbers" and document 02's kind, as plain facts of the bytes: where
--- each check applies, that the first that does is given, and which call is read where none does. Proved of all bytes in proofs/Rows.
--- Assumes nothing.
-use Prim.Native.Nat.{ℕ, _+_, _*_, _^_, _<_}
+-- Document 01, "Event records and lines" with rows 20 to 22 of "Reply numbers" and document 02's kind and offset, as plain facts of the
+-- bytes: where each check applies, that the first that does is given, and which call is read where none does. Proved of all bytes and
+-- offsets in proofs/Rows. Assumes nothing.
+use Prim.Native.Nat.{ℕ, _+_, _-_, _*_, _^_, _≤_, _<_}
 use mathlib.Core.Path.{_≡_}
 use mathlib.Core.List.{List, [], _∷_, _++_}
 use mathlib.Core.Logic.{_↔_}
@@ -67,8 +67,16 @@ pub data Says (s : List ℕ) (c : Call) : Type 0 where
   -- "5 tick, 8 bytes: time"
   says-tick : c .asked ≡ tick → Begins s ((5, 1) ∷ (8, 2) ∷ (c .now, 8) ∷ []) → Says s c
 
--- "Given exactly when", with detail 0; an event is the call that the bytes say, and there is one exactly when no check applies
-pub record Table (s : List ℕ) : Type 0 where
-  pub refuses : (number detail : ℕ) → reading s ≡ refused (record { number = number; detail = detail }) ↔ First s number × (detail ≡ 0)
-  pub gives : (c : Call) → reading s ≡ event c ↔ Says s c
-  pub reads : ((c : Call) × (reading s ≡ event c)) ↔ NoCheck s
+-- the detail of a refusal: "the byte offset, from the start of input, at which the bad record begins"; the largest number of 64 bits
+-- where the offset has more of them
+pub data Detail (offset : ℕ) : ℕ → Type 0 where
+  is-offset : offset < 2 ^ 64 → Detail offset offset
+  is-largest : 2 ^ 64 ≤ offset → Detail offset (2 ^ 64 - 1)
+
+-- "Given exactly when", with the offset of the record that is read; an event is the call that the bytes say, wherever they begin, and there
+-- is one exactly when no check applies
+pub record Table (offset : ℕ) (s : List ℕ) : Type 0 where
+  pub refuses : (number detail : ℕ) → reading offset s ≡ refused (record { number = number; detail = detail })
+      ↔ First s number × Detail offset detail
+  pub gives : (c : Call) → reading offset s ≡ event c ↔ Says s c
+  pub reads : ((c : Call) × (reading offset s ≡ event c)) ↔ NoCheck s

@@ -20,10 +20,14 @@ ghost use Rattle.records.specs.Record.{payloadOf, known, payload as payl
 ghost use Rattle.records.specs.Record.{description as saidDescription, no as refusedWith};
 ghost use Rattle.records.specs.Answer.{paperEvent, paperRead, paperPayload};
 
-fn no(number: u8) -> Read
-    ensures { λ r. ⌜ paperRead r ≡ refusedWith number ⌝ }
+// The refusal of the record that begins at `offset`.
+fn no(offset: u64, number: u8) -> Read
+    ensures { λ r. ⌜ paperRead r ≡ refusedWith offset number ⌝ }
 {
-    Read::No(Refusal { number, detail: 0 })
+    Read::No(Refusal {
+        number,
+        detail: offset,
+    })
 }
 
 // 6 and 7 are kept for device work.
@@ -96,25 +100,25 @@ fn event(tag: u8, bytes: &[u8]) -> Event
     }
 }
 
-// The record that begins the bytes; what lies behind a whole one is not looked at.
-pub fn read(bytes: &[u8]) -> Read
-    ensures { λ r. ⌜ paperRead r ≡ reading (now (bytes .entry)) ⌝ }
+// The record that begins the bytes, at `offset` from the start of input; what lies behind a whole one is not looked at.
+pub fn read(bytes: &[u8], offset: u64) -> Read
+    ensures { λ r. ⌜ paperRead r ≡ reading offset (now (bytes .entry)) ⌝ }
 {
     if bytes.len() < HEADER {
-        return no(20);
+        return no(offset, 20);
     }
     let tag = bytes[0];
     let asks = payload(tag);
     let Payload::Bytes(due) = asks else {
-        return no(21);
+        return no(offset, 21);
     };
     let said = numbers::two(bytes[1], bytes[2]) as usize;
     if said != due {
-        return no(22);
+        return no(offset, 22);
     }
     let rest = bytes.len() - HEADER;
     if rest < due {
-        return no(20);
+        return no(offset, 20);
     }
     Read::Event(event(tag, bytes))
 }

@@ -1,12 +1,12 @@
 -- What an accepted call passed: none of the rows applied. While a VCPU runs, the timer keeps the ticks held to those usable (row 3).
 -- Assumes nothing.
 use mathlib.Core.Path.{_≡_, refl, ap, sym, _∙_, subst}
-use mathlib.Core.Bool.{Bool, true, false, not, _&&_}
+use mathlib.Core.Bool.{Bool, true, false, not}
 use mathlib.Core.List.{List}
 use mathlib.Core.Option.{Option, none, some}
-use Prim.Native.Nat.{ℕ, _+_, _-_, _≤_, _<_}
+use Prim.Native.Nat.{ℕ, _+_, _≤_, _<_}
 use native.Mathlib.Omega.{arith}
-use lib.Dec.{leb, ltb}
+use lib.Dec.{leb, ltb, eqb}
 use lib.ListN.{length}
 use borrow.Author.Tests.{leb-true, leb-false, not-false}
 use Rattle.rules.specs.Limits.{largestTime, largestPeriod, largestKind, mostVcpus, inRange}
@@ -54,14 +54,11 @@ passed c now asked e =
         let p = row-passed (isLate u now) 3 u below f in
         (λ t g. let q : u ≡ t = cc in omega (arith, tests), p .1)
 
--- "period 1 to 1,000,000, capacity 1 to the period"
-pub range-says : (period capacity : ℕ) → inRange period capacity ≡ true
-    → (1 ≤ period) × (period ≤ largestPeriod) × (1 ≤ capacity) × (capacity ≤ period)
-range-says period capacity e =
-    let h = and-true (leb 1 period && leb period largestPeriod && leb 1 capacity) (leb capacity period) e in
-    let i = and-true (leb 1 period && leb period largestPeriod) (leb 1 capacity) (h .0) in
-    let j = and-true (leb 1 period) (leb period largestPeriod) (i .0) in
-    (leb-true 1 period (j .0), leb-true period largestPeriod (j .1), leb-true 1 capacity (i .1), leb-true capacity period (h .1))
+-- "period 1 to 1,000,000"
+pub range-says : (period : ℕ) → inRange period ≡ true → (1 ≤ period) × (period ≤ largestPeriod)
+range-says period e =
+    let h = and-true (leb 1 period) (leb period largestPeriod) e in
+    (leb-true 1 period (h .0), leb-true period largestPeriod (h .1))
 
 pub record Admits (vs : List Vcpu) (d : Description) : Type 0 where
   pub range : InRange d
@@ -71,18 +68,20 @@ pub record Admits (vs : List Vcpu) (d : Description) : Type 0 where
 pub admits : (vs : List Vcpu) (d : Description) → admitRows vs d ≡ none → Admits vs d
 admits vs d e =
     let a = row-passed (above24Bits (d .tunnel)) 4 0 _ e in
-    let b = row-passed (not (inRange (d .period) (d .capacity))) 5 0 _ (a .1) in
-    let k = row-passed (ltb largestKind (d .kind)) 10 0 _ (b .1) in
+    let b = row-passed (not (inRange (d .period))) 5 0 _ (a .1) in
+    let l = row-passed (eqb (d .capacity) 0) 11 0 _ (b .1) in
+    let h = row-passed (ltb (d .period) (d .capacity)) 12 0 _ (l .1) in
+    let k = row-passed (ltb largestKind (d .kind)) 10 0 _ (h .1) in
     let f = row-passed (onCard (d .tunnel) vs) 6 0 _ (k .1) in
     let g = row-passed (leb mostVcpus (length vs)) 8 0 _ (f .1) in
-    let r = range-says (d .period) (d .capacity) (not-false (inRange (d .period) (d .capacity)) (b .0)) in
+    let r = range-says (d .period) (not-false (inRange (d .period)) (b .0)) in
     record {
       range = record {
         tunnel-high = omega (arith, tests, a .0);
         period-low = r .0;
         period-high = r .1;
-        capacity-low = r .2;
-        capacity-high = r .3;
+        capacity-low = omega (arith, tests, l .0);
+        capacity-high = omega (arith, tests, h .0);
         kind-high = omega (arith, tests, k .0);
       };
       not-there = f .0;

@@ -1,7 +1,7 @@
 -- The reply table: the reply is refused with a row's number and detail exactly when that row is the first that applies, and accepted
 -- exactly when none does; and the list of the rows has each of them once. Of every card and every call. Assumes nothing.
 use mathlib.Core.Path.{_≡_, refl, ap, sym, _∙_, subst}
-use mathlib.Core.Bool.{Bool, true, false, _&&_}
+use mathlib.Core.Bool.{Bool, true, false}
 use mathlib.Core.List.{List, [], _∷_}
 use mathlib.Core.Logic.{_⊎_, inl, inr, ⊎-elim}
 use mathlib.Core.Option.{Option, none, some}
@@ -9,9 +9,9 @@ use Prim.Native.Nat.{ℕ, _≤_, _<_}
 use native.Mathlib.Omega.{arith}
 use lib.Dec.{leb, ltb, eqb}
 use lib.ListN.{length}
-use borrow.Author.Tests.{leb-false, eq-eqb, not-true, not-false}
+use borrow.Author.Tests.{leb-false, eq-eqb, eqb-true, not-true, not-false}
 use Rattle.rules.specs.Limits.{largestTime, largestTunnel, largestPeriod, largestKind, mostVcpus, inRange}
-use Rattle.rules.specs.Lists.{count, Among}
+use Rattle.rules.specs.Lists.{any, count, Among}
 use Rattle.rules.specs.Vcpu.{Description}
 use Rattle.rules.specs.Card.{Card, onCard}
 use Rattle.rules.specs.Change.{Change, admit, wake, block, remove, tick}
@@ -19,10 +19,10 @@ use Rattle.rules.specs.Refuse.{Refusal, row, aboveLargest, belowLast, is
 use Rattle.rules.specs.Refuse.{callRows, refusal}
 use Rattle.rules.specs.Turn.{Call, ok, refused, turn, accepted, answered, report, settled}
 use Rattle.rules.specs.Meaning.{Sporadic, Deferrable, Polling, OnTheCard}
-use Rattle.rules.specs.Rows.{AdmitOf, WakeBlockRemoveOf, OutOfRange, Row, row-1, row-2, row-3, row-4, row-5, row-6, row-7}
-use Rattle.rules.specs.Rows.{row-8, row-10, order, Higher, First, NoRow, Table}
+use Rattle.rules.specs.Rows.{AdmitOf, WakeBlockRemoveOf, Row, row-1, row-2, row-3, row-4, row-5, row-6, row-7, row-8}
+use Rattle.rules.specs.Rows.{row-10, row-11, row-12, order, Higher, First, NoRow, Table}
 use Rattle.rules.proofs.Tests.{tests, clash, no-some, and-false}
-use Rattle.rules.proofs.Lists.{count-among}
+use Rattle.rules.proofs.Lists.{all-among, any-one, count-among}
 use Rattle.rules.proofs.Named.{on-card-says, is-on-card}
 use Rattle.rules.proofs.ThreeKinds.{one-of-three}
 use Rattle.rules.proofs.Accepted.{range-says}
@@ -55,24 +55,13 @@ names asked tunnel (inr p) = others-name asked tunnel p .0
 pub same : {A : Type 0} (o : Option A) (a b : A) → o ≡ some a → o ≡ some b → a ≡ b
 same o a b e f = let g : some a ≡ some b = sym e ∙ f in cc
 
-out-of-range : (period capacity : ℕ) → inRange period capacity ≡ false
-    → OutOfRange 1 largestPeriod period ⊎ OutOfRange 1 period capacity
-out-of-range period capacity e =
-    ⊎-elim (λ f. ⊎-elim (λ g. ⊎-elim (λ h. inl (inl (leb-false 1 period h))) (λ h. inl (inr (leb-false period largestPeriod h)))
-    (and-false (leb 1 period) (leb period largestPeriod) g))
-    (λ g. inr (inl (leb-false 1 capacity g))) (and-false (leb 1 period && leb period largestPeriod) (leb 1 capacity) f))
-    (λ f. inr (inr (leb-false capacity period f)))
-    (and-false (leb 1 period && leb period largestPeriod && leb 1 capacity) (leb capacity period) e)
+out-of-range : (period : ℕ) → inRange period ≡ false → (period < 1) ⊎ (largestPeriod < period)
+out-of-range period e =
+    ⊎-elim (λ f. inl (leb-false 1 period f)) (λ f. inr (leb-false period largestPeriod f))
+    (and-false (leb 1 period) (leb period largestPeriod) e)
 
-not-out : (period capacity : ℕ) → inRange period capacity ≡ true → OutOfRange 1 largestPeriod period ⊎ OutOfRange 1 period capacity → ⊥
-not-out period capacity e o = go (range-says period capacity e) o
-  where
-    go : (1 ≤ period) × (period ≤ largestPeriod) × (1 ≤ capacity) × (capacity ≤ period)
-        → OutOfRange 1 largestPeriod period ⊎ OutOfRange 1 period capacity → ⊥
-    go p (inl (inl h)) = omega (arith, p .0)
-    go p (inl (inr h)) = omega (arith, p .1)
-    go p (inr (inl h)) = omega (arith, p .2)
-    go p (inr (inr h)) = omega (arith, p .3)
+not-out : (period : ℕ) → inRange period ≡ true → (period < 1) ⊎ (largestPeriod < period) → ⊥
+not-out period e = let p = range-says period e in ⊎-elim (λ h. omega (arith, p .0)) (λ h. omega (arith, p .1))
 
 -- in any list of rows
 
@@ -105,15 +94,7 @@ not-both n m (a ∷ l) (inr h) (inr k) = ⊎-elim (λ x. inl (omega arith)) (λ 
 
 -- the list of the rows has none twice
 pub at-most-once : (n : ℕ) → Among n order → often n order ≤ 1
-at-most-once n (inl e) = rw e (omega arith)
-at-most-once n (inr (inl e)) = rw e (omega arith)
-at-most-once n (inr (inr (inl e))) = rw e (omega arith)
-at-most-once n (inr (inr (inr (inl e)))) = rw e (omega arith)
-at-most-once n (inr (inr (inr (inr (inl e))))) = rw e (omega arith)
-at-most-once n (inr (inr (inr (inr (inr (inl e)))))) = rw e (omega arith)
-at-most-once n (inr (inr (inr (inr (inr (inr (inl e))))))) = rw e (omega arith)
-at-most-once n (inr (inr (inr (inr (inr (inr (inr (inl e)))))))) = rw e (omega arith)
-at-most-once n (inr (inr (inr (inr (inr (inr (inr (inr (inl e))))))))) = rw e (omega arith)
+at-most-once = all-among (λ n. often n order ≤ 1) order (omega arith)
 
 -- so of two rows at most one is above the other, and none is above itself
 pub one-way : (n m : ℕ) → Higher n m order → Higher m n order → ⊥
@@ -124,18 +105,26 @@ one-way n m h k =
 pub strict : (n : ℕ) → Higher n n order → ⊥
 strict n h = one-way n n h h
 
+-- a test of the list says whether a row stands in it
+listed : (n : ℕ) → any (λ m. eqb m n) order ≡ true → Among n order
+listed n e =
+    let p = any-one (λ m. eqb m n) order e in
+    subst (λ (m : ℕ). Among m order) (eqb-true (p .0) n (p .2)) (p .1)
+
 module _ (c : Card) (call : Call) where
   -- the list has every row
   pub all-there : (n d : ℕ) → Row c call n d → Among n order
-  all-there n d (row-1 h) = inl refl
-  all-there n d (row-2 h) = inr (inl refl)
-  all-there n d (row-3 t e h) = inr (inr (inl refl))
-  all-there n d (row-4 t e h) = inr (inr (inr (inl refl)))
-  all-there n d (row-5 t e h) = inr (inr (inr (inr (inl refl))))
-  all-there n d (row-10 t e f g h) = inr (inr (inr (inr (inr (inl refl)))))
-  all-there n d (row-6 t e h) = inr (inr (inr (inr (inr (inr (inl refl))))))
-  all-there n d (row-7 t e h) = inr (inr (inr (inr (inr (inr (inr (inl refl)))))))
-  all-there n d (row-8 t e h) = inr (inr (inr (inr (inr (inr (inr (inr (inl refl))))))))
+  all-there n d (row-1 h) = listed 1 refl
+  all-there n d (row-2 h) = listed 2 refl
+  all-there n d (row-3 t e h) = listed 3 refl
+  all-there n d (row-4 t e h) = listed 4 refl
+  all-there n d (row-5 t e h) = listed 5 refl
+  all-there n d (row-11 t e h) = listed 11 refl
+  all-there n d (row-12 t e h) = listed 12 refl
+  all-there n d (row-10 t e f g h) = listed 10 refl
+  all-there n d (row-6 t e h) = listed 6 refl
+  all-there n d (row-7 t e h) = listed 7 refl
+  all-there n d (row-8 t e h) = listed 8 refl
 
   -- from the top: only these rows are left that may apply, and they are the last of the table
   record Left (rest : List ℕ) : Type 0 where
@@ -144,7 +133,7 @@ module _ (c : Card) (call : Call) where
 
   -- those below the rows of the time
   abbrev callOrder : List ℕ
-  callOrder = 4 ∷ 5 ∷ 10 ∷ 6 ∷ 7 ∷ 8 ∷ []
+  callOrder = 4 ∷ 5 ∷ 11 ∷ 12 ∷ 10 ∷ 6 ∷ 7 ∷ 8 ∷ []
 
   abbrev Not : ℕ → Type 0
   Not number = (d : ℕ) → Row c call number d → ⊥
@@ -193,33 +182,40 @@ module _ (c : Card) (call : Call) where
   of-4 : (d : ℕ) → Row c call 4 d → (t : ℕ) × (tunnelOf (call .asked) ≡ some t) × (largestTunnel < t)
   of-4 d (row-4 t e h) = (t, names (call .asked) t e, h)
 
-  of-5 : (d : ℕ) → Row c call 5 d
-      → (t : Description) × (termsOf (call .asked) ≡ some t) ×
-      (OutOfRange 1 largestPeriod (t .period) ⊎ OutOfRange 1 (t .period) (t .capacity))
-  of-5 d (row-5 t e h) = (t, ap termsOf e, h)
-
-  of-10 : (d : ℕ) → Row c call 10 d → (t : Description)
-      × (termsOf (call .asked) ≡ some t) × (Sporadic t → ⊥) × (Deferrable t → ⊥) × (Polling t → ⊥)
-  of-10 d (row-10 t e f g h) = (t, ap termsOf e, f, g, h)
-
-  of-6 : (d : ℕ) → Row c call 6 d → (t : Description) × (termsOf (call .asked) ≡ some t) × OnTheCard (c .vcpus) (t .tunnel)
-  of-6 d (row-6 t e h) = (t, ap termsOf e, h)
-
   of-7 : (d : ℕ) → Row c call 7 d
       → (t : ℕ) × (tunnelOf (call .asked) ≡ some t) × (termsOf (call .asked) ≡ none) × (OnTheCard (c .vcpus) t → ⊥)
   of-7 d (row-7 t e h) = let p = others-name (call .asked) t e in (t, p .0, p .1, h)
 
-  of-8 : (d : ℕ) → Row c call 8 d → (t : Description) × (termsOf (call .asked) ≡ some t) × (mostVcpus ≤ length (c .vcpus))
+  -- the call is an admit, and this holds of what it carries
+  abbrev Admitting : (Description → Type 0) → Type 0
+  Admitting P = (t : Description) × (termsOf (call .asked) ≡ some t) × P t
+
+  of-5 : (d : ℕ) → Row c call 5 d → Admitting (λ t. (t .period < 1) ⊎ (largestPeriod < t .period))
+  of-5 d (row-5 t e h) = (t, ap termsOf e, h)
+
+  of-11 : (d : ℕ) → Row c call 11 d → Admitting (λ t. t .capacity ≡ 0)
+  of-11 d (row-11 t e h) = (t, ap termsOf e, h)
+
+  of-12 : (d : ℕ) → Row c call 12 d → Admitting (λ t. t .period < t .capacity)
+  of-12 d (row-12 t e h) = (t, ap termsOf e, h)
+
+  of-10 : (d : ℕ) → Row c call 10 d → Admitting (λ t. (Sporadic t → ⊥) × (Deferrable t → ⊥) × (Polling t → ⊥))
+  of-10 d (row-10 t e f g h) = (t, ap termsOf e, (f, g, h))
+
+  of-6 : (d : ℕ) → Row c call 6 d → Admitting (λ t. OnTheCard (c .vcpus) (t .tunnel))
+  of-6 d (row-6 t e h) = (t, ap termsOf e, h)
+
+  of-8 : (d : ℕ) → Row c call 8 d → Admitting (λ t. mostVcpus ≤ length (c .vcpus))
   of-8 d (row-8 t e h) = (t, ap termsOf e, h)
 
-  -- rows 5, 10, 6 and 8 are an admit's
-  no-admit : (a : Change) → call .asked ≡ a → termsOf a ≡ none → Not 5 × Not 10 × Not 6 × Not 8
-  no-admit a e f = (
-    λ d r. no-some (sym f ∙ ap termsOf (sym e) ∙ of-5 d r .1),
-    λ d r. no-some (sym f ∙ ap termsOf (sym e) ∙ of-10 d r .1),
-    λ d r. no-some (sym f ∙ ap termsOf (sym e) ∙ of-6 d r .1),
-    λ d r. no-some (sym f ∙ ap termsOf (sym e) ∙ of-8 d r .1),
-  )
+  -- rows 5, 11, 12, 10, 6 and 8 are an admit's: another call passes the first five, which stand together, and the last
+  no-admit : termsOf (call .asked) ≡ none → {P : Description → Type 0} → Admitting P → ⊥
+  no-admit f p = no-some (sym f ∙ p .1)
+
+  others-pass : termsOf (call .asked) ≡ none → (rest : List ℕ) → Left (5 ∷ 11 ∷ 12 ∷ 10 ∷ 6 ∷ rest) → Left rest
+  others-pass f rest a =
+      skip 6 _ (λ d r. no-admit f (of-6 d r)) (skip 10 _ (λ d r. no-admit f (of-10 d r)) (skip 12 _ (λ d r. no-admit f (of-12 d r))
+      (skip 11 _ (λ d r. no-admit f (of-11 d r)) (skip 5 _ (λ d r. no-admit f (of-5 d r)) a))))
 
   late : (o : Option Refusal) (u : Option ℕ) → c .timer ≡ u → (below : Option Refusal) (rest : List ℕ)
       → rowLate u (call .now) below ≡ o → (below ≡ o → Left rest → Says o) → Left (3 ∷ rest) → Says o
@@ -239,35 +235,29 @@ module _ (c : Card) (call : Call) where
   admitting o d e w a =
       step o (above24Bits (d .tunnel)) 4 0 _ _ w (λ f. row-4 (d .tunnel) (inl (d, e, refl)) (omega (arith, tests)))
       (λ f n r. omega (arith, tests, high (d .tunnel) (inl (d, e, refl)) n r))
-      (λ w. step o _ 5 0 _ _ w (λ f. row-5 d e (out-of-range (d .period) (d .capacity) (not-true _ f)))
-      (λ f n r. in-range (not-false _ f) n r)
+      (λ w. step o _ 5 0 _ _ w (λ f. row-5 d e (out-of-range (d .period) (not-true _ f)))
+      (λ f n r. not-out (d .period) (not-false _ f) (its _ (of-5 n r)))
+      (λ w. step o (eqb (d .capacity) 0) 11 0 _ _ w (λ f. row-11 d e (omega (arith, tests)))
+      (λ f n r. omega (arith, tests, its _ (of-11 n r)))
+      (λ w. step o (ltb (d .period) (d .capacity)) 12 0 _ _ w (λ f. row-12 d e (omega (arith, tests)))
+      (λ f n r. omega (arith, tests, its _ (of-12 n r)))
       (λ w. step o (ltb largestKind (d .kind)) 10 0 _ _ w
       (λ f. row-10 d e (λ k. omega (arith, tests)) (λ k. omega (arith, tests)) (λ k. omega (arith, tests)))
       (λ f n r. known (omega (arith, tests)) n r)
       (λ w. step o _ 6 0 _ _ w (λ f. row-6 d e (on-card-says (c .vcpus) (d .tunnel) f)) (λ f n r. clash (sym (there n r) ∙ f))
       (λ w b. step o (leb mostVcpus (length (c .vcpus))) 8 0 _ _ w (λ f. row-8 d e (omega (arith, tests)))
-      (λ f n r. omega (arith, tests, of-8 n r .2)) (λ w k. subst Says w (bottom k)) (skip 7 _ not-7 b))))) a
+      (λ f n r. omega (arith, tests, of-8 n r .2)) (λ w k. subst Says w (bottom k)) (skip 7 _ not-7 b))))))) a
     where
-      is-d : (t : Description) → termsOf (call .asked) ≡ some t → t ≡ d
-      is-d t f = same (termsOf (call .asked)) t d f (ap termsOf e)
-
-      in-range : inRange (d .period) (d .capacity) ≡ true → Not 5
-      in-range f n r =
-          let p = of-5 n r in
-          not-out (d .period) (d .capacity) f
-          (subst (λ (x : Description). OutOfRange 1 largestPeriod (x .period) ⊎ OutOfRange 1 (x .period) (x .capacity))
-          (is-d (p .0) (p .1)) (p .2))
+      its : (P : Description → Type 0) → Admitting P → P d
+      its P p = subst P (same (termsOf (call .asked)) (p .0) d (p .1) (ap termsOf e)) (p .2)
 
       known : d .kind ≤ 2 → Not 10
       known h n r =
-          let p = of-10 n r in
-          let k = one-of-three (p .0) (subst (λ (x : Description). x .kind ≤ 2) (sym (is-d (p .0) (p .1))) h) in
-          ⊎-elim (p .2) (⊎-elim (p .3) (p .4)) k
+          let p = its _ (of-10 n r) in
+          ⊎-elim (p .0) (⊎-elim (p .1) (p .2)) (one-of-three d h)
 
       there : (n : ℕ) → Row c call 6 n → onCard (d .tunnel) (c .vcpus) ≡ true
-      there n r =
-          let p = of-6 n r in
-          is-on-card (c .vcpus) (d .tunnel) (subst (λ (x : Description). OnTheCard (c .vcpus) (x .tunnel)) (is-d (p .0) (p .1)) (p .2))
+      there n r = is-on-card (c .vcpus) (d .tunnel) (its _ (of-6 n r))
 
       not-7 : Not 7
       not-7 n r = no-some (sym (of-7 n r .2) ∙ ap termsOf e)
@@ -277,10 +267,10 @@ module _ (c : Card) (call : Call) where
       step o (above24Bits t) 4 0 _ _ w (λ f. row-4 t (inr i) (omega (arith, tests))) (λ f n r. omega (arith, tests, high t (inr i) n r))
       (λ w b. step o _ 7 0 _ _ w (λ f. row-7 t i (λ p. clash (sym (is-on-card (c .vcpus) t p) ∙ not-true _ f)))
       (λ f n r. not-there n r (on-card-says (c .vcpus) t (not-false _ f)))
-      (λ w k. subst Says w (bottom (skip 8 _ (x .3) k))) (skip 6 _ (x .2) (skip 10 _ (x .1) (skip 5 _ (x .0) b)))) a
+      (λ w k. subst Says w (bottom (skip 8 _ (λ n r. no-admit other (of-8 n r)) k))) (others-pass other _ b)) a
     where
-      x : Not 5 × Not 10 × Not 6 × Not 8
-      x = no-admit (call .asked) refl (others-name (call .asked) t i .1)
+      other : termsOf (call .asked) ≡ none
+      other = others-name (call .asked) t i .1
 
       not-there : (n : ℕ) → Row c call 7 n → OnTheCard (c .vcpus) t → ⊥
       not-there n r k =
@@ -294,12 +284,9 @@ module _ (c : Card) (call : Call) where
   asks o (block t) e = naming o t (inr (inl e))
   asks o (remove t) e = naming o t (inr (inr e))
   asks o tick e = λ w a. subst Says w
-      (bottom (skip 8 _ (x .3) (skip 7 _ (λ d r. nothing (of-7 d r .1))
-      (skip 6 _ (x .2) (skip 10 _ (x .1) (skip 5 _ (x .0) (skip 4 _ (λ d r. nothing (of-4 d r .1)) a)))))))
+      (bottom (skip 8 _ (λ d r. no-admit (ap termsOf e) (of-8 d r)) (skip 7 _ (λ d r. nothing (of-7 d r .1))
+      (others-pass (ap termsOf e) _ (skip 4 _ (λ d r. nothing (of-4 d r .1)) a)))))
     where
-      x : Not 5 × Not 10 × Not 6 × Not 8
-      x = no-admit tick e refl
-
       nothing : {t : ℕ} → tunnelOf (call .asked) ≡ some t → ⊥
       nothing f = no-some (ap tunnelOf (sym e) ∙ f)
 
@@ -318,6 +305,8 @@ module _ (c : Card) (call : Call) where
   one-detail n d e (row-3 t f h) (row-3 u g k) = same (c .timer) t u f g
   one-detail n d e (row-4 t f h) (row-4 u g k) = refl
   one-detail n d e (row-5 t f h) (row-5 u g k) = refl
+  one-detail n d e (row-11 t f h) (row-11 u g k) = refl
+  one-detail n d e (row-12 t f h) (row-12 u g k) = refl
   one-detail n d e (row-10 t f h i j) (row-10 u g k l m) = refl
   one-detail n d e (row-6 t f h) (row-6 u g k) = refl
   one-detail n d e (row-7 t f h) (row-7 u g k) = refl

@@ -27,6 +27,6 @@ mostVcpus = 32
 abbrev pub mostPending : ℕ
 mostPending = 8
 
--- period 1 to 1,000,000, capacity 1 to the period. The priority is one byte: its range is the type's (docs/DECISIONS.md).
-abbrev pub inRange : ℕ → ℕ → Bool
-inRange period capacity = leb 1 period && leb period largestPeriod && leb 1 capacity && leb capacity period
+-- period 1 to 1,000,000. The priority is one byte: its range is the type's (docs/DECISIONS.md).
+abbrev pub inRange : ℕ → Bool
+inRange period = leb 1 period && leb period largestPeriod

@@ -1,10 +1,10 @@
--- Document 01, "Reply numbers", rows 1 to 8, and row 10 of document 02, No. 1: the first row from the top that applies.
+-- Document 01, "Reply numbers", rows 1 to 8, with rows 10 to 12 of document 02, Nos. 1 and 2: the first row from the top that applies.
 -- Rows states the same in plain facts. Assumes nothing.
 use Prim.Native.Nat.{ℕ}
 use mathlib.Core.Bool.{Bool, cond, not}
 use mathlib.Core.List.{List}
 use mathlib.Core.Option.{Option, none, some}
-use lib.Dec.{leb, ltb}
+use lib.Dec.{leb, ltb, eqb}
 use lib.ListN.{length}
 use Rattle.rules.specs.Limits.{largestTime, largestTunnel, largestKind, mostVcpus, inRange}
 use Rattle.rules.specs.Vcpu.{Description, Vcpu}
@@ -41,14 +41,17 @@ timeRows last timer now below = row (aboveLargest now) 1 0 (row (belowLast last 
 abbrev pub above24Bits : ℕ → Bool
 above24Bits tunnel = ltb largestTunnel tunnel
 
+-- "5 for the period, 11 for a capacity of 0, 12 for a capacity above the period"; "11 then 12, straight after 5 and before 10"
 abbrev pub admitRows : List Vcpu → Description → Option Refusal
 admitRows vs d =
     row (above24Bits (d .tunnel)) 4 0
-    (row (not (inRange (d .period) (d .capacity))) 5 0
+    (row (not (inRange (d .period))) 5 0
+    (row (eqb (d .capacity) 0) 11 0
+    (row (ltb (d .period) (d .capacity)) 12 0
     (row (ltb largestKind (d .kind)) 10 0
     (row (onCard (d .tunnel) vs) 6 0
     (row (leb mostVcpus (length vs)) 8 0
-    none))))
+    none))))))
 
 -- wake, block, remove
 abbrev pub namingRows : List Vcpu → ℕ → Option Refusal

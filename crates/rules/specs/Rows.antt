@@ -1,4 +1,4 @@
--- Document 01, "Reply numbers", rows 1 to 8, and row 10 of document 02, as plain facts: where each applies, and that the first from
+-- Document 01, "Reply numbers", rows 1 to 8, with rows 10 to 12 of document 02, as plain facts: where each applies, and that the first from
 -- the top that does is given.
 -- Proved of every card and every call in proofs/Rows. Assumes nothing.
 use Prim.Native.Nat.{ℕ, _≤_, _<_}
@@ -23,9 +23,6 @@ AdmitOf asked tunnel = (d : Description) × (asked ≡ admit d) × (d .tunnel �
 abbrev pub WakeBlockRemoveOf : Change → ℕ → Type 0
 WakeBlockRemoveOf asked tunnel = (asked ≡ wake tunnel) ⊎ (asked ≡ block tunnel) ⊎ (asked ≡ remove tunnel)
 
-abbrev pub OutOfRange : ℕ → ℕ → ℕ → Type 0
-OutOfRange low high n = (n < low) ⊎ (high < n)
-
 -- the row with this number applies, and has this detail
 pub data Row (c : Card) (call : Call) : ℕ → ℕ → Type 0 where
   -- "time above the largest"
@@ -36,9 +33,10 @@ pub data Row (c : Card) (call : Call) : ℕ → ℕ → Type 0 where
   row-3 : (t : ℕ) → c .timer ≡ some t → t < call .now → Row c call 3 t
   -- "identifier above 24 bits"
   row-4 : (tunnel : ℕ) → AdmitOf (call .asked) tunnel ⊎ WakeBlockRemoveOf (call .asked) tunnel → largestTunnel < tunnel → Row c call 4 0
-  -- "admit: period or capacity out of range"
-  row-5 : (d : Description) → call .asked ≡ admit d
-      → OutOfRange 1 largestPeriod (d .period) ⊎ OutOfRange 1 (d .period) (d .capacity) → Row c call 5 0
+  -- of admit: "5 for the period, 11 for a capacity of 0, 12 for a capacity above the period"
+  row-5 : (d : Description) → call .asked ≡ admit d → (d .period < 1) ⊎ (largestPeriod < d .period) → Row c call 5 0
+  row-11 : (d : Description) → call .asked ≡ admit d → d .capacity ≡ 0 → Row c call 11 0
+  row-12 : (d : Description) → call .asked ≡ admit d → d .period < d .capacity → Row c call 12 0
   -- "10, unknown kind, after 5"
   row-10 : (d : Description) → call .asked ≡ admit d → (Sporadic d → ⊥) → (Deferrable d → ⊥) → (Polling d → ⊥) → Row c call 10 0
   -- "admit: identifier is on the card"
@@ -48,9 +46,9 @@ pub data Row (c : Card) (call : Call) : ℕ → ℕ → Type 0 where
   -- "admit: 32 VCPUs are on the card"
   row-8 : (d : Description) → call .asked ≡ admit d → mostVcpus ≤ length (c .vcpus) → Row c call 8 0
 
--- the rows from the top
+-- the rows from the top: "11 then 12, straight after 5 and before 10"
 abbrev pub order : List ℕ
-order = 1 ∷ 2 ∷ 3 ∷ 4 ∷ 5 ∷ 10 ∷ 6 ∷ 7 ∷ 8 ∷ []
+order = 1 ∷ 2 ∷ 3 ∷ 4 ∷ 5 ∷ 11 ∷ 12 ∷ 10 ∷ 6 ∷ 7 ∷ 8 ∷ []
 
 -- the row n stands above the row m
 abbrev pub Higher : ℕ → ℕ → List ℕ → Type 0

@@ -1,20 +1,20 @@
 -- The rows of model's specs/Rows.antt at the place that a loop looks at, and what lists are like that no row refuses.
 -- Assumes nothing.
 use Prim.Native.Nat.{ℕ, suc, _+_, _-_, _*_, _≤_, _<_}
-use mathlib.Core.Path.{_≡_, refl, sym, _∙_}
-use mathlib.Core.Bool.{Bool, true, false, cond, not}
+use mathlib.Core.Path.{_≡_, sym, _∙_}
+use mathlib.Core.Bool.{Bool, true, false, not}
 use mathlib.Core.List.{List}
 use mathlib.Core.Logic.{_⊎_, inl, inr}
 use native.Mathlib.Omega.{arith}
 use native.Mathlib.Nat.{le-suc-iff}
-use lib.Dec.{ltb, leb, eqb}
-use borrow.Author.Tests.{lt-ltb, le-ltb, le-leb, lt-leb, leb-true, ltb-false, eqb-true, not-false}
+use lib.Dec.{ltb, eqb}
+use borrow.Author.Tests.{lt-ltb, le-leb, lt-leb, ltb-false, not-false}
 use lib.ListN.{length, getD}
 use Rattle.model.specs.Search.{first}
-use Rattle.model.specs.Rows.{inRange, miscounted, outOfRange, falls, tasksRow}
-use Rattle.model.proofs.Tests.{and-both, or-neither}
+use Rattle.model.specs.Rows.{inRange, miscounted, outOfRange, falls}
 use Rattle.model.proofs.Places.{NoneOf, first-at, first-none, first-smallest}
 use Rattle.model.proofs.Replies.{in-range}
+use Rattle.model.proofs.TaskRows.{counts, NoTasksRow}
 use Rattle.shares.specs.Private.{Tasks, longest, Filled, Leaps, Ready}
 
 -- a loop that looks at place 1, 2, .. and leaves at the first that has the test: what it knows after i places
@@ -48,18 +48,7 @@ fall-at ps i h =
 pub fall-none : (ps : List ℕ) → NoneOf (falls ps) 1
 fall-none ps s p l = let e : s ≡ 1 = omega arith in rw e
 
--- the tests of rows 30 to 32, by which a list is refused or taken
-unfoldable late : List ℕ → List ℕ → ℕ
-late ps es = cond (ltb 0 (first (outOfRange ps es) (length ps))) 31 (cond (ltb 0 (first (falls ps) (length ps))) 32 0)
-
-by-count : (ps es : List ℕ) → tasksRow ps es ≡ cond (miscounted ps es) 30 (late ps es)
-unfolding tasksRow late
-by-count ps es = refl
-
-pub row-count : (ps es : List ℕ) → miscounted ps es ≡ true → 30 ≡ tasksRow ps es
-row-count ps es m = sym (by-count ps es ∙ rw m)
-
--- the three ways to be miscounted, and what is known where none is met
+-- the ways to be miscounted
 pub count-empty : (ps es : List ℕ) → length ps ≡ 0 → miscounted ps es ≡ true
 count-empty ps es h = rw h
 
@@ -68,28 +57,6 @@ count-many ps es h = rw (le-leb 1 (length ps) (omega arith)) (rw (lt-leb (length
 
 pub count-fits : (ps es : List ℕ) → 1 ≤ length ps → length ps ≤ 16 → miscounted ps es ≡ not (eqb (length ps) (length es))
 count-fits ps es some-task few = rw (le-leb 1 (length ps) some-task) (rw (le-leb (length ps) 16 few))
-
-pub counts : (ps es : List ℕ) → miscounted ps es ≡ false → (1 ≤ length ps) × (length ps ≤ 16) × (length ps ≡ length es)
-counts ps es m =
-    let parts = or-neither _ _ m in
-    let count = and-both (leb 1 (length ps)) (leb (length ps) 16) (not-false _ (parts .0)) in
-    (leb-true _ _ (count .0), leb-true _ _ (count .1), eqb-true _ _ (not-false _ (parts .1)))
-
-module _ (ps es : List ℕ) (m : miscounted ps es ≡ false) where
-  counted : tasksRow ps es ≡ late ps es
-  counted = by-count ps es ∙ rw m
-
-  pub row-range : 0 < first (outOfRange ps es) (length ps) → 31 ≡ tasksRow ps es
-  unfolding late
-  row-range h = sym (counted ∙ rw (lt-ltb _ _ h))
-
-  pub row-fall : first (outOfRange ps es) (length ps) ≤ 0 → 0 < first (falls ps) (length ps) → 32 ≡ tasksRow ps es
-  unfolding late
-  row-fall h k = sym (counted ∙ rw (le-ltb _ _ h) (rw (lt-ltb _ _ k)))
-
-  pub row-none : first (outOfRange ps es) (length ps) ≤ 0 → first (falls ps) (length ps) ≤ 0 → 0 ≡ tasksRow ps es
-  unfolding late
-  row-none h k = sym (counted ∙ rw (le-ltb _ _ h) (rw (le-ltb _ _ k)))
 
 -- lists that no row refuses
 module _ (ps es : List ℕ) (m : miscounted ps es ≡ false)
@@ -118,23 +85,13 @@ module _ (ps es : List ℕ) (m : miscounted ps es ≡ false)
           sym (fall-at ps (suc i) (omega arith)) ∙ f (suc i + 1) (omega arith) (omega arith) in
           ltb-false _ _ (rw e at t)
 
-pub tasks-fit : (ps es : List ℕ) → tasksRow ps es ≡ 0 → Tasks ps es
-unfolding tasksRow
-tasks-fit ps es h =
-    go (miscounted ps es) refl (ltb 0 (first (outOfRange ps es) (length ps))) refl (ltb 0 (first (falls ps) (length ps))) refl h
-  where
-    empty : (g : ℕ → Bool) → ltb 0 (first g (length ps)) ≡ false → (s : ℕ) → 1 ≤ s → s ≤ length ps → g s ≡ false
-    empty g t = first-smallest g (length ps) .none (omega (arith, ltb-false 0 (first g (length ps)) t))
-
-    go : (a : Bool) → miscounted ps es ≡ a → (b : Bool) → ltb 0 (first (outOfRange ps es) (length ps)) ≡ b
-        → (c : Bool) → ltb 0 (first (falls ps) (length ps)) ≡ c → _≡_ {A = ℕ} (cond a 30 (cond b 31 (cond c 32 0))) 0 → Tasks ps es
-    go true ea b eb c ec h = absurd (omega arith)
-    go false ea true eb c ec h = absurd (omega arith)
-    go false ea false eb true ec h = absurd (omega arith)
-    go false ea false eb false ec h = as-tasks ps es ea (empty (outOfRange ps es) eb) (empty (falls ps) ec)
+pub tasks-fit : (ps es : List ℕ) → NoTasksRow ps es → Tasks ps es
+tasks-fit ps es ok =
+    as-tasks ps es (ok .counted) (first-smallest (outOfRange ps es) (length ps) .none (ok .none-out))
+    (first-smallest (falls ps) (length ps) .none (ok .no-fall))
 
 -- what check, least and best hand to the search
-pub ready : (ps es demands leaps : List ℕ) (P : ℕ) → tasksRow ps es ≡ 0 → (1 ≤ P) × (P ≤ 2000)
+pub ready : (ps es demands leaps : List ℕ) (P : ℕ) → NoTasksRow ps es → (1 ≤ P) × (P ≤ 2000)
     → Filled ps es demands ((longest ps + 1) * 16) → Leaps ps es leaps (length ps * 2001) → Ready ps es demands leaps P
 ready ps es demands leaps P ok fits table leaps-table =
     record { tasks = tasks-fit ps es ok; table = table; leaps-table = leaps-table; period-least = fits .0; period-most = fits .1 }

@@ -2,7 +2,6 @@
 use crate::answers::Budget;
 use crate::answers::Interface;
 use crate::answers::Refusal;
-use crate::answers::Share;
 use crate::answers::Ticks;
 use crate::answers::Verdict;
 use crate::curve::supplied;
@@ -61,8 +60,8 @@ pub fn demand(periods: &[u32], costs: &[u32], place: u32, t: u32) -> Ticks
     ensures { λ r. ⌜ paperTicks r ≡ demandReply (now (periods .entry)) (now (costs .entry)) place t ⌝ }
 {
     let row = tasks_row(periods, costs);
-    if row != 0 {
-        return Ticks::No(refusal(row));
+    if row.number != 0 {
+        return Ticks::No(row);
     }
     if LONGEST < t {
         return Ticks::No(refusal(35));
@@ -82,8 +81,8 @@ pub fn check(periods: &[u32], costs: &[u32], p: u32, b: u32) -> Verdict
     ensures { λ r. ⌜ paperVerdict r ≡ checkReply (now (periods .entry)) (now (costs .entry)) p b ⌝ }
 {
     let row = tasks_row(periods, costs);
-    if row != 0 {
-        return Verdict::No(refusal(row));
+    if row.number != 0 {
+        return Verdict::No(row);
     }
     let fits = is_in_range(p, b);
     if !fits {
@@ -105,8 +104,8 @@ pub fn least(periods: &[u32], costs: &[u32], p: u32) -> Budget
     ensures { λ r. ⌜ paperBudget r ≡ leastReply (now (periods .entry)) (now (costs .entry)) p ⌝ }
 {
     let row = tasks_row(periods, costs);
-    if row != 0 {
-        return Budget::No(refusal(row));
+    if row.number != 0 {
+        return Budget::No(row);
     }
     let fits = is_within(p, LONGEST);
     if !fits {
@@ -129,8 +128,8 @@ pub fn best(periods: &[u32], costs: &[u32], p_max: u32) -> Interface
     ensures { λ r. ⌜ paperInterface r ≡ bestReply (now (periods .entry)) (now (costs .entry)) «p_max» ⌝ }
 {
     let row = tasks_row(periods, costs);
-    if row != 0 {
-        return Interface::No(refusal(row));
+    if row.number != 0 {
+        return Interface::No(row);
     }
     let fits = is_within(p_max, LONGEST);
     if !fits {

@@ -1,9 +1,11 @@
-// Rows 30 to 33 of document 01's table of reply numbers.
+// Rows 30 to 33 of document 01's table of reply numbers, with document 02's places.
+use crate::answers::Refusal;
 ghost use mathlib.Core.Path.{_≡_};
 ghost use Prim.Native.Nat.{_≤_};
 ghost use lib.ListN.{length};
-ghost use Rattle.model.specs.Search.{first};
-ghost use Rattle.model.specs.Rows.{within, inRange, miscounted, outOfRange, falls, tasksRow};
+ghost use Rattle.model.specs.Reply.{refuses};
+ghost use Rattle.model.specs.Rows.{within, inRange, miscounted, firstOut, firstFall, tasksRows};
+ghost use Rattle.shares.specs.Paper.{paperRefusal};
 
 pub(crate) const MOST_TASKS: usize = 16;
 
@@ -34,7 +36,7 @@ fn is_miscounted(periods: &[u32], costs: &[u32]) -> bool
 // The first place, from 1, of a task whose numbers are out of range (row 31); 0 where there is none.
 fn first_out_of_range(periods: &[u32], costs: &[u32]) -> usize
     requires { ⌜ (length (now periods) ≡ length (now costs)) × (length (now periods) ≤ 16) ⌝ }
-    ensures { λ r. ⌜ r ≡ first (outOfRange (now (periods .entry)) (now (costs .entry))) (length (now (periods .entry))) ⌝ }
+    ensures { λ r. ⌜ r ≡ firstOut (now (periods .entry)) (now (costs .entry)) ⌝ }
 {
     for i in 0..periods.len() {
         let fits = is_in_range(periods[i], costs[i]);
@@ -48,7 +50,7 @@ fn first_out_of_range(periods: &[u32], costs: &[u32]) -> usize
 // The first place, from 1, of a task whose period is below the one before (row 32); 0 where there is none.
 fn first_fall(periods: &[u32]) -> usize
     requires { ⌜ (1 ≤ length (now periods)) × (length (now periods) ≤ 16) ⌝ }
-    ensures { λ r. ⌜ r ≡ first (falls (now (periods .entry))) (length (now (periods .entry))) ⌝ }
+    ensures { λ r. ⌜ r ≡ firstFall (now (periods .entry)) ⌝ }
 {
     for i in 1..periods.len() {
         if periods[i] < periods[i - 1] {
@@ -58,18 +60,35 @@ fn first_fall(periods: &[u32]) -> usize
     0
 }
 
-// The row of 30 to 32 that refuses the lists; 0 where none does.
-pub(crate) fn tasks_row(periods: &[u32], costs: &[u32]) -> u32
-    ensures { λ r. ⌜ r ≡ tasksRow (now (periods .entry)) (now (costs .entry)) ⌝ }
+// The refusal of the lists by rows 30 to 32, for 31 and 32 with the first such task's place; the number is 0
+// where none applies.
+pub(crate) fn tasks_row(periods: &[u32], costs: &[u32]) -> Refusal
+    ensures { λ r. ⌜ paperRefusal r ≡ tasksRows (now (periods .entry)) (now (costs .entry)) (refuses 0 0) ⌝ }
 {
     if is_miscounted(periods, costs) {
-        return 30;
+        return Refusal {
+            number: 30,
+            detail: 0,
+        };
     }
-    if 0 < first_out_of_range(periods, costs) {
-        return 31;
+    let out = first_out_of_range(periods, costs);
+    if 0 < out {
+        let place = out as u32;
+        return Refusal {
+            number: 31,
+            detail: place,
+        };
     }
-    if 0 < first_fall(periods) {
-        return 32;
+    let fall = first_fall(periods);
+    if 0 < fall {
+        let place = fall as u32;
+        return Refusal {
+            number: 32,
+            detail: place,
+        };
     }
-    0
+    Refusal {
+        number: 0,
+        detail: 0,
+    }
 }

@@ -8,7 +8,7 @@ use mathlib.Core.Option.{Option, none, some}
 use native.Mathlib.Omega.{arith}
 use lib.Dec.{ltb, eqb}
 use lib.ListN.{length}
-use borrow.Author.Tests.{eqb-true, eq-eqb, ne-eqb, lt-ltb}
+use borrow.Author.Tests.{eqb-true, eq-eqb, lt-ltb}
 use Rattle.units.specs.Units.{moment, amount}
 use Rattle.rules.specs.Lists.{keep, All}
 use Rattle.rules.specs.Vcpu.{Description, moreUrgent, named}
@@ -19,12 +19,14 @@ use Rattle.rules.proofs.Tests.{and-right}
 use Rattle.rules.proofs.Lists.{all-among, map-among}
 use Rattle.rules.proofs.Choice.{chosen}
 use Rattle.rules.proofs.Urgency.{irreflexive, asymmetric}
+use Rattle.turns.specs.declared.Kind.{Kind}
+use Rattle.turns.specs.declared.Kind.the-variants.{Sporadic, Deferrable, Polling}
 use Rattle.turns.specs.declared.Vcpu.{Vcpu}
 use Rattle.turns.specs.declared.Pick.{Pick}
-use Rattle.turns.specs.Written.{never, idle, kindAs, written, place, timerOf}
+use Rattle.turns.specs.Written.{never, idle, boundaryAt, written, place, timerOf}
 use Rattle.turns.proofs.Invariant.{Ranked, Distinct, termsOf}
-use Rattle.turns.specs.Steps.{hasQueue, headOf, boundaryOf, pickedOf, picks, readyOf}
-use Rattle.turns.proofs.Written.{Formed, queue, refills, kind-queue}
+use Rattle.turns.specs.Steps.{headOf, boundaryIn, pickedOf, picks, readyOf}
+use Rattle.turns.proofs.Written.{Formed, boundary-written}
 use Rattle.turns.proofs.Return.{first, head-written}
 
 -- a time more, or none, before some times; none of them above the time above all
@@ -62,21 +64,16 @@ module _ (v : Tenant) (c : Calm v) where
   next-most : timerOf (next v) ≤ never
   next-most = let r = rises-first 0 (comes v) (c .rises) in omega (arith, r .1, r .2)
 
-  own-written : boundaryOf ((written v) .kind) (headOf (written v)) ≡ timerOf (v .boundary)
-  unfolding written
-  own-written = go (c .formed)
-    where
-      go : Formed v → cond (hasQueue (kindAs (v .terms .kind))) never (headOf (written v)) ≡ timerOf (v .boundary)
-      go (queue k e) = rw (kind-queue (v .terms .kind) ∙ eq-eqb (v .terms .kind) 0 k, e)
-      go (refills k h p b e) =
-          rw (kind-queue (v .terms .kind) ∙ ne-eqb (v .terms .kind) 0 k) (head-written v ∙ rw (p, e))
+  own-written : timerOf (boundaryIn (written v)) ≡ timerOf (v .boundary)
+  own-written = ap timerOf (boundary-written v (c .formed))
 
   own-most : timerOf (v .boundary) ≤ never
-  own-most = subst (λ (n : ℕ). n ≤ never) own-written (go (hasQueue ((written v) .kind)))
+  own-most = subst (λ (n : ℕ). n ≤ never) own-written (go ((written v) .kind))
     where
-      go : (b : Bool) → cond b never (headOf (written v)) ≤ never
-      go true = omega arith
-      go false = omega (arith, next-head, next-most)
+      go : (k : Kind) → timerOf (boundaryAt k (moment (headOf (written v)))) ≤ never
+      go Sporadic = omega arith
+      go Deferrable = omega (arith, next-head, next-most)
+      go Polling = omega (arith, next-head, next-most)
 
 pub nexts-most : (test : Tenant → Bool) (vs : List Tenant) → All Calm vs → timerOf (earliest (nexts (keep test vs))) ≤ never
 nexts-most test [] h = omega arith

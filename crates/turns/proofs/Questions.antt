@@ -24,11 +24,12 @@ use Rattle.turns.specs.declared.Holder.the-variants.{Idle as Idle′}
 use Rattle.turns.specs.Written.{idle, nobody, tunnelOf, written, noTenant, card, place, runningAt}
 use Rattle.turns.proofs.Invariant.{SoundCore, between, orderly-formed}
 use Rattle.turns.specs.Places.{seek, holderOf}
+use Rattle.turns.specs.Steps.{boundaryIn}
 use Rattle.turns.specs.Calls.{holderSaid, looked, boundaryOf, paperHolder}
 use Rattle.turns.proofs.Laid.{laid-get, laid-length}
 use Rattle.turns.proofs.Places.{place-there, seek-laid}
 use Rattle.rules.proofs.Lists.{all-imp}
-use Rattle.turns.proofs.Written.{Formed, boundaryIn, boundary-written}
+use Rattle.turns.proofs.Written.{Formed, boundary-written}
 use Rattle.turns.proofs.Ranked.{all-get}
 use Rattle.turns.proofs.Paper.{paper-holder}
 use Rattle.turns.proofs.Stage.{places-are, ids-are}

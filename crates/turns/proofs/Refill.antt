@@ -21,10 +21,10 @@ use Rattle.turns.specs.declared.Description.{Description}
 use Rattle.turns.specs.declared.Kind.{Kind}
 use Rattle.turns.specs.declared.Vcpu.{Vcpu}
 use Rattle.turns.specs.Laid.{laid}
-use Rattle.turns.specs.Written.{never, kindAs, noTenant, written, shown}
+use Rattle.turns.specs.Written.{never, kindAs, boundaryAt, noTenant, written, shown, timerOf}
 use Rattle.turns.specs.Calls.{described}
-use Rattle.turns.specs.Steps.{hasQueue, leftOf, headOf, untilNext, usableAs, refilledOf, boundaryOf, bare, Returnable}
-use Rattle.turns.proofs.Written.{kind-queue, kind-left, boundary-first}
+use Rattle.turns.specs.Steps.{hasQueue, leftOf, headOf, untilNext, usableAs, refilledOf, bare, Returnable}
+use Rattle.turns.proofs.Written.{kind-left, kind-boundary, boundary-first}
 
 next-boundary : (now T b : ℕ) → 1 ≤ T → b ≤ now → now + T < never
     → later (moment now) (untilNext (moment b) (moment now) (amount T)) ≡ moment (boundaryAfter now T b)
@@ -104,18 +104,18 @@ newcomer d v ds u k =
     }
 
 module _ (now : Moment) (d : Description) (h : now .0 + d .period .0 ≤ never) where
-  first-due : set (laid 8 moment (moment never) []) 0 (moment (boundaryOf (kindAs (d .kind)) (later now (d .period) .0)))
+  first-due : set (laid 8 moment (moment never) []) 0 (moment (timerOf (boundaryAt (kindAs (d .kind)) (later now (d .period)))))
       ≡ laid 8 moment (moment never) (comes (admitted (now .0) (described d)))
   unfolding laid
-  first-due = rw (kind-queue (d .kind)) (go (eqb (d .kind) 0))
+  first-due = rw (kind-boundary (d .kind) (later now (d .period))) (go (eqb (d .kind) 0))
     where
-      go : (b : Bool) → set (laid 8 moment (moment never) []) 0 (moment (cond b never (later now (d .period) .0)))
+      go : (b : Bool) → set (laid 8 moment (moment never) []) 0 (moment (timerOf (cond b none (some (later now (d .period) .0)))))
           ≡ laid 8 moment (moment never) (times (cond b none (some (now .0 + d .period .0))))
       go true = refl
       go false = ap (λ (m : ℕ). moment m ∷ laid 7 moment (moment never) []) (omega arith)
 
   pub admits-so : newcomer d (written noTenant)
-      (set ((written noTenant) .due) 0 (moment (boundaryOf (kindAs (d .kind)) (later now (d .period) .0))))
+      (set ((written noTenant) .due) 0 (moment (timerOf (boundaryAt (kindAs (d .kind)) (later now (d .period))))))
       (leftOf (kindAs (d .kind)) false (d .capacity)) (kindAs (d .kind))
       ≡ written (admitted (now .0) (described d))
   unfolding written

@@ -6,7 +6,7 @@ use mathlib.Core.Bool.{Bool, true, false, cond, not}
 use mathlib.Core.List.{List}
 use mathlib.Core.Option.{Option, none, some}
 use native.Mathlib.Omega.{arith}
-use lib.Dec.{leb, ltb}
+use lib.Dec.{leb, ltb, eqb}
 use lib.ListN.{length}
 use borrow.Author.Tests.{ltb-false, lt-ltb, le-ltb, lt-leb, not-false}
 use Rattle.units.specs.Units.{moment, tunnel}
@@ -61,22 +61,15 @@ module _ (vs : List Tenant) (few : length vs ≤ 32) where
   admit-same : (d : Description) → judgeAdmit (seek (d .tunnel .0) (idsOf vs)) (length vs) d ≡ verdictOf (admitRows vs (described d))
   unfolding judgeAdmit
   admit-same d =
-      row-same (ltb largestTunnel t) 4 0
-      (verdictRow (not (inRange (d .period .0) (d .capacity .0))) 5 0 (verdictRow (ltb largestKind (d .kind)) 10 0 there))
-      (row (not (inRange (d .period .0) (d .capacity .0))) 5 0 (row (ltb largestKind (d .kind)) 10 0 thereRow))
-      (λ f. row-same (not (inRange (d .period .0) (d .capacity .0))) 5 0 (verdictRow (ltb largestKind (d .kind)) 10 0 there)
-      (row (ltb largestKind (d .kind)) 10 0 thereRow)
-      (λ g. row-same (ltb largestKind (d .kind)) 10 0 there thereRow
-      (λ h. inner (onCard t vs) refl (sought t (onCard t vs) f refl))))
+      row-same (ltb largestTunnel t) 4 0 _ _
+      (λ f. row-same (not (inRange (d .period .0))) 5 0 _ _
+      (λ g. row-same (eqb (d .capacity .0) 0) 11 0 _ _
+      (λ g. row-same (ltb (d .period .0) (d .capacity .0)) 12 0 _ _
+      (λ g. row-same (ltb largestKind (d .kind)) 10 0 _ _
+      (λ g. inner (onCard t vs) refl (sought t (onCard t vs) f refl))))))
     where
       t : ℕ
       t = d .tunnel .0
-
-      there : Verdict
-      there = verdictRow (ltb (seek t (idsOf vs)) nowhere) 6 0 (verdictRow (leb mostVcpus (length vs)) 8 0 Accept)
-
-      thereRow : Option Row
-      thereRow = row (onCard t vs) 6 0 (row (leb mostVcpus (length vs)) 8 0 none)
 
       inner : (b : Bool) → onCard (d .tunnel .0) vs ≡ b → seek (d .tunnel .0) (idsOf vs) ≡ cond b (place (d .tunnel .0) vs) nowhere
           → verdictRow (ltb (seek (d .tunnel .0) (idsOf vs)) nowhere) 6 0 (verdictRow (leb mostVcpus (length vs)) 8 0 Accept)

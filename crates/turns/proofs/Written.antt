@@ -24,7 +24,7 @@ use Rattle.turns.specs.declared.Kind.the-variants.{Sporadic, Deferrable,
 use Rattle.turns.specs.declared.Vcpu.{Vcpu}
 use Rattle.turns.specs.Laid.{laid}
 use Rattle.turns.specs.Written.{never, amountOf, tunnelOf, paperKind, kindAs, boundaryAt, written, entries, shown, tenants}
-use Rattle.turns.specs.Steps.{hasQueue, leftOf, headOf, queueAs}
+use Rattle.turns.specs.Steps.{hasQueue, leftOf, boundaryIn, queueAs}
 
 -- the tenant under another identifier
 abbrev pub under : ℕ → Tenant → Tenant
@@ -92,6 +92,13 @@ boundary-none Sporadic m e = refl
 boundary-none Deferrable m e = clash (sym e)
 boundary-none Polling m e = clash (sym e)
 
+pub kind-boundary : (n : ℕ) (m : Moment) → boundaryAt (kindAs n) m ≡ cond (eqb n 0) none (some (m .0))
+kind-boundary n m = go (eqb n 0) (kind-queue n)
+  where
+    go : (b : Bool) → hasQueue (kindAs n) ≡ b → boundaryAt (kindAs n) m ≡ cond b none (some (m .0))
+    go true e = boundary-none (kindAs n) m e
+    go false e = boundary-first (kindAs n) m e
+
 first-slot : (v : Tenant) (b : ℕ) → v .pending ≡ [] → v .boundary ≡ some b → getD (laid 8 moment (moment never) (comes v)) 0 (moment 0)
     ≡ moment b
 unfolding laid
@@ -105,10 +112,6 @@ boundary-again v (refills k h p b e) =
     boundary-first (kindAs (v .terms .kind)) _ (kind-queue (v .terms .kind) ∙ ne-eqb (v .terms .kind) 0 k)
     ∙ ap (λ (m : Moment). some (m .0)) (first-slot v b p e)
     ∙ sym e
-
--- the boundary that a record shows
-abbrev pub boundaryIn : Vcpu → Option ℕ
-boundaryIn v = boundaryAt (v .kind) (moment (headOf v))
 
 pub boundary-written : (v : Tenant) → Formed v → boundaryIn (written v) ≡ v .boundary
 unfolding written

@@ -2,7 +2,7 @@
 -- Assumes nothing.
 use Prim.Native.Nat.{ℕ}
 use mathlib.Core.Bool.{Bool, cond, not}
-use lib.Dec.{leb, ltb}
+use lib.Dec.{leb, ltb, eqb}
 use Rattle.units.specs.declared.Moment.{Moment}
 use Rattle.rules.specs.Limits.{largestTime, largestTunnel, largestKind, mostVcpus, inRange}
 use Rattle.turns.specs.declared.Verdict.{Verdict}
@@ -21,11 +21,13 @@ verdictRow applies number detail below = cond applies (refuse number detail) bel
 unfoldable pub judgeAdmit : ℕ → ℕ → Description → Verdict
 judgeAdmit at n d =
     verdictRow (ltb largestTunnel (d .tunnel .0)) 4 0
-    (verdictRow (not (inRange (d .period .0) (d .capacity .0))) 5 0
+    (verdictRow (not (inRange (d .period .0))) 5 0
+    (verdictRow (eqb (d .capacity .0) 0) 11 0
+    (verdictRow (ltb (d .period .0) (d .capacity .0)) 12 0
     (verdictRow (ltb largestKind (d .kind)) 10 0
     (verdictRow (ltb at nowhere) 6 0
     (verdictRow (leb mostVcpus n) 8 0
-    Accept))))
+    Accept))))))
 
 unfoldable pub judgeNaming : ℕ → ℕ → Verdict
 judgeNaming at t = verdictRow (ltb largestTunnel t) 4 0 (verdictRow (leb nowhere at) 7 0 Accept)

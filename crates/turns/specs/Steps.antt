@@ -4,6 +4,7 @@ use Prim.Native.Nat.{ℕ, suc, _+_, _-_, _%_, _≤_, _<_, min}
 use mathlib.Core.Path.{_≡_}
 use mathlib.Core.Bool.{Bool, true, false, cond, _&&_}
 use mathlib.Core.List.{List, [], _∷_}
+use mathlib.Core.Option.{Option}
 use lib.Dec.{ltb, eqb}
 use lib.ListN.{length, getD, set}
 use Rattle.units.specs.Units.{moment, amount, tunnel, later}
@@ -16,7 +17,7 @@ use Rattle.turns.specs.declared.Pick.{Pick}
 use Rattle.rules.specs.Limits.{mostPending}
 use Rattle.rules.specs.Lists.{sum}
 use Rattle.rules.specs.Vcpu.{Vcpu as Tenant}
-use Rattle.turns.specs.Written.{never, idle, written, shown}
+use Rattle.turns.specs.Written.{never, idle, boundaryAt, written, shown, timerOf}
 
 -- ticks come back by a queue, or at boundaries
 abbrev pub hasQueue : Kind → Bool
@@ -149,6 +150,10 @@ returnedOne v =
 abbrev pub headOf : Vcpu → ℕ
 headOf v = (getD (v .due) 0 (moment 0)) .0
 
+-- the next boundary that a record shows
+abbrev pub boundaryIn : Vcpu → Option ℕ
+boundaryIn v = boundaryAt (v .kind) (moment (headOf v))
+
 -- the ticks from `now` to the first of the moments b, b + T, b + 2T .. after it
 abbrev pub untilNext : Moment → Moment → Amount → Amount
 untilNext b now T = amount (T .0 - (now .0 - b .0) % T .0)
@@ -157,10 +162,6 @@ unfoldable pub refilledOf : Vcpu → Moment → Vcpu
 refilledOf v now =
     usableAs v (set (v .due) 0 (later now (untilNext (moment (headOf v)) now (v .period)))) (v .runnable)
     (leftOf (v .kind) (v .runnable) (v .capacity))
-
--- a boundary at that time, or the time above all
-abbrev pub boundaryOf : Kind → ℕ → ℕ
-boundaryOf kind at = cond (hasQueue kind) never at
 
 abbrev pub readyOf : Vcpu → Bool
 readyOf v = v .runnable && ltb 0 (v .usable .0)
@@ -172,7 +173,7 @@ waitsOf v = cond (v .runnable) (headOf v) never
 unfoldable pub pickedOf : Pick → ℕ → Vcpu → Pick
 pickedOf k j v =
     cond (ltb (k .at) idle) k
-    (cond (readyOf v) (record { at = j; usable = v .usable; soon = moment (min (k .soon .0) (boundaryOf (v .kind) (headOf v))) })
+    (cond (readyOf v) (record { at = j; usable = v .usable; soon = moment (min (k .soon .0) (timerOf (boundaryIn v))) })
     (record { at = idle; usable = k .usable; soon = moment (min (k .soon .0) (waitsOf v)) }))
 
 -- all places from `j` on

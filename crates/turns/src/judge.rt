@@ -1,4 +1,4 @@
-// The reply numbers, rows 1 to 8 and 10. `at` is the place of the VCPU that the call names: a refused call does not touch the table.
+// The reply numbers, rows 1 to 8 and 10 to 12. `at` is the place of the VCPU that the call names: a refused call does not touch the table.
 use crate::Change;
 use crate::Description;
 use crate::LARGEST_KIND;
@@ -22,19 +22,13 @@ fn refused(number: u8, detail: u64) -> Verdict
     Verdict::Refuse(Refusal { number, detail })
 }
 
-fn in_range(period: u32, capacity: u32) -> bool
-    ensures { λ r. ⌜ r ≡ inRange period capacity ⌝ }
+fn in_range(period: u32) -> bool
+    ensures { λ r. ⌜ r ≡ inRange period ⌝ }
 {
     if period < 1 {
         return false;
     }
-    if LARGEST_PERIOD < period {
-        return false;
-    }
-    if capacity < 1 {
-        return false;
-    }
-    capacity <= period
+    period <= LARGEST_PERIOD
 }
 
 fn judged_admit(at: usize, n: usize, d: Description) -> Verdict
@@ -47,9 +41,19 @@ fn judged_admit(at: usize, n: usize, d: Description) -> Verdict
     if wide {
         return refused(4, 0);
     }
-    let fits = in_range(period.ticks(), capacity.ticks());
+    let t = period.ticks();
+    let c = capacity.ticks();
+    let fits = in_range(t);
     if !fits {
         return refused(5, 0);
+    }
+    let zero = c == 0;
+    if zero {
+        return refused(11, 0);
+    }
+    let above = t < c;
+    if above {
+        return refused(12, 0);
     }
     let unknown = LARGEST_KIND < d.kind;
     if unknown {

@@ -18,11 +18,11 @@ ghost use Rattle.units.specs.Units.{moment, amount};
 ghost use Rattle.rules.specs.Limits.{mostPending};
 ghost use Rattle.rules.specs.Return.{returned as returnedRule};
 ghost use Rattle.rules.specs.Vcpu.{admitted as admittedRule};
-ghost use Rattle.turns.specs.Written.{never, written, noTenant, timerAt, kindAs, boundaryAt};
+ghost use Rattle.turns.specs.Written.{never, written, noTenant, timerAt, timerOf, kindAs, boundaryAt};
 ghost use Rattle.turns.specs.Calls.{described, timerSaid, paperBoundary};
 ghost use Rattle.turns.specs.Steps.{hasQueue, leftOf};
 ghost use Rattle.turns.specs.Steps.{elapsedOf, ticksAt, joinedOf, foldedOf, appendedOf, joinsOf, postedOf, spentOf, chargedOf};
-ghost use Rattle.turns.specs.Steps.{Chargeable, nextOf, returnedOne, headOf, untilNext, refilledOf, boundaryOf, runnableAs, readyOf};
+ghost use Rattle.turns.specs.Steps.{Chargeable, nextOf, returnedOne, headOf, untilNext, refilledOf, boundaryIn, runnableAs, readyOf};
 ghost use Rattle.turns.specs.Steps.{waitsOf, pickedOf, timerFor, bare, Returnable};
 
 // The kind of a VCPU on the card, from the byte asked for. An unknown one is refused before.
@@ -312,7 +312,7 @@ pub(crate) fn vacant() -> Vcpu
 
 // The boundary at `at`, which a sporadic VCPU has not.
 fn boundary(kind: Kind, at: Moment) -> Moment
-    ensures { λ r. ⌜ r ≡ moment (boundaryOf kind (at .0)) ⌝ }
+    ensures { λ r. ⌜ r ≡ moment (timerOf (boundaryAt kind at)) ⌝ }
 {
     if has_queue(kind) {
         return Moment::new(NEVER);
@@ -424,7 +424,7 @@ pub(crate) fn timer_said(timer: Moment) -> Timer
 
 // The next boundary, as a look tells it.
 pub(crate) fn boundary_said(v: Vcpu) -> Boundary
-    ensures { λ r. ⌜ paperBoundary r ≡ boundaryAt (v .kind) (moment (headOf v)) ⌝ }
+    ensures { λ r. ⌜ paperBoundary r ≡ boundaryIn v ⌝ }
 {
     let kind = v.kind;
     if has_queue(kind) {

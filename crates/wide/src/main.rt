@@ -35,10 +35,10 @@ fn called(core: Core, now: u64, change: Change) -> Core
     answer.core
 }
 
-fn admit(id: u32, capacity: u32, kind: u8) -> Change {
+fn admit(id: u32, period: u32, capacity: u32, kind: u8) -> Change {
     Change::Admit(Description {
         tunnel: Tunnel::new(id),
-        period: Amount::new(10),
+        period: Amount::new(period),
         capacity: Amount::new(capacity),
         priority: 1,
         kind,
@@ -62,30 +62,41 @@ fn refused(core: Core) -> Core
     requires { ⌜ ValidCore core ⌝ }
     ensures { λ r. ⌜ ValidCore r ⌝ }
 {
-    let core = called(core, 0, admit(NEXT, 3, 0));
+    let core = called(core, 0, admit(NEXT, 10, 3, 0));
     let core = called(core, 0, wake(ALIKE));
     let core = called(core, 0, block(ALIKE));
     let core = called(core, 0, remove(ALL_BITS));
     called(core, 0, Change::Tick)
 }
 
-// Rows 1, 2 and 3 come before row 4, and rows 5 and 10 behind it.
+// Admits that meet row 5, row 11, row 12 and row 10: these come behind row 4, and before row 6.
+fn behind(core: Core, id: u32) -> Core
+    requires { ⌜ ValidCore core ⌝ }
+    ensures { λ r. ⌜ ValidCore r ⌝ }
+{
+    let core = called(core, 0, admit(id, 1000001, 3, 0));
+    let core = called(core, 0, admit(id, 10, 0, 0));
+    let core = called(core, 0, admit(id, 10, 11, 0));
+    called(core, 0, admit(id, 10, 3, 3))
+}
+
+// Rows 1, 2 and 3 come before row 4.
 fn ordered(core: Core) -> Core
     requires { ⌜ ValidCore core ⌝ }
     ensures { λ r. ⌜ ValidCore r ⌝ }
 {
     let core = called(core, 1000000000001, wake(NEXT));
     let core = called(core, 4, wake(NEXT));
-    let core = called(core, 0, admit(NEXT, 0, 0));
-    let core = called(core, 0, admit(NEXT, 3, 3));
     let core = called(core, 2, Change::Tick);
     let core = called(core, 1, remove(NEXT));
     called(core, 3, Change::Tick)
 }
 
 fn main() {
-    let core = called(Core::empty(), 0, admit(LARGEST_TUNNEL, 3, 0));
+    let core = called(Core::empty(), 0, admit(LARGEST_TUNNEL, 10, 3, 0));
     let core = called(core, 0, wake(LARGEST_TUNNEL));
     let core = refused(core);
+    let core = behind(core, NEXT);
+    let core = behind(core, LARGEST_TUNNEL);
     ordered(core);
 }

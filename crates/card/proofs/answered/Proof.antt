@@ -18,7 +18,10 @@ use Rattle.card.proofs.answered.Tie as tie
 
 abbrev Inv-loop : tie.InvT-loop
 Inv-loop offset input end last out₀ served₀ used₀ out served used =
-    ValidCore (served .core) × (used ≤ end) × (length out ≡ length out₀) × Ahead (served₀ .core) (take end input) last (served .core) used
+    ValidCore (served .core)
+    × (used ≤ end)
+    × (length out ≡ length out₀)
+    × Ahead (served₀ .core) offset (take end input) last (served .core) used
 
 abbrev μ-loop : tie.MeasureT-loop
 μ-loop offset input end last out₀ served₀ used₀ out served used = end - used
@@ -51,10 +54,10 @@ serve-used s =
 loop-holds : tie.Need-loop-holds Inv-loop μ-loop
 loop-holds c =
     let a = c .before .before .args in
-    (c .before .before .pre .0, omega arith, refl, ahead-start (a .core) (take (a .end) (a .input .now)) (a .last))
+    (c .before .before .pre .0, omega arith, refl, ahead-start (a .core) (a .offset) (take (a .end) (a .input .now)) (a .last))
 
-add-place : tie.Need-add-place Inv-loop μ-loop
-add-place c = omega (arith, c .loop .inv .1, start c .pre .3)
+add-begins : tie.Need-add-begins Inv-loop μ-loop
+add-begins c = omega (arith, c .loop .inv .1, start c .pre .3)
 
 sub-serve : tie.Need-sub-serve Inv-loop μ-loop
 sub-serve c = search needs
@@ -102,7 +105,7 @@ same-length c = search needs
 
 returns : tie.Need-returns Inv-loop μ-loop
 returns c =
-    let j = c .before .before in
+    let j = c .before .before .before in
     let s = joined j in
     let l = top s .loop in
     let a = start (top s) .args in
@@ -113,8 +116,8 @@ returns c =
     (λ u. inr (⊎-elim (λ v. inl (v .1 .taken)) (λ v. inr (omega (arith, tests, v .3 .taken))) u))
     (j .if1 .came) in (
       (s .serve .ensures .0 .1, omega arith),
-      last-go (a .core) (a .input .now) (a .end) (a .last) (l .served .core) (l .used) (length (l .out)) (s .serve .result)
-          (l .inv .3) (l .inv .1) (p .1) (s .serve .ensures .0 .0) (a .offset) (j .before .is-written .result) (c .standing-of .result)
+      last-go (a .core) (a .offset) (a .input .now) (a .end) (a .last) (l .served .core) (l .used) (length (l .out)) (s .serve .result)
+          (l .inv .3) (l .inv .1) (p .1) (s .serve .ensures .0 .0) (j .before .is-written .result) (c .standing-of .result)
           (omega (arith, p .2, l .inv .2)) why (c .standing-of .ensures),
     )
 
@@ -129,7 +132,7 @@ loop-again c =
       s .serve .ensures .0 .1,
       serve-used s,
       s .serve .kept .1 .1 .1 .1 .0 ∙ l .inv .2,
-      next-go (a .core) (a .input .now) (a .end) (a .last) (l .served .core) (l .used) (length (l .out)) (s .serve .result)
+      next-go (a .core) (a .offset) (a .input .now) (a .end) (a .last) (l .served .core) (l .used) (length (l .out)) (s .serve .result)
           (l .inv .3) (l .inv .1) (start (top s) .pre .1) (s .serve .ensures .0 .0) (c .before .before .if2 .left),
     )
 
@@ -140,7 +143,7 @@ answered-spec =
     Inv-loop
     μ-loop
     loop-holds
-    add-place
+    add-begins
     sub-serve
     part-serve-start
     part-serve-end

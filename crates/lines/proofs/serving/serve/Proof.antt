@@ -16,8 +16,10 @@ use Rattle.units.specs.declared.Moment.{Moment}
 use Rattle.turns.specs.declared.Refusal.{Refusal}
 use Rattle.records.specs.declared.answers.Read.the-variants.{Event as Got, No}
 use Rattle.records.specs.declared.answers.Event.{Event}
+use Rattle.records.specs.Record.{told}
 use Rattle.records.specs.Answer.{readSpec}
 use Rattle.records.specs.Encode.{sizeOf}
+use Rattle.records.proofs.Offset.{read-told}
 use Rattle.records.proofs.Paper.{read-is}
 use Rattle.lines.specs.Text.{longest}
 use Rattle.lines.specs.Serve.{timeOf, changeOf, refusalOf}
@@ -28,11 +30,11 @@ use Rattle.lines.proofs.serving.serve.Statement.{statement}
 use Rattle.lines.proofs.serving.serve.Tie as tie
 
 abbrev Inv-loop : tie.InvT-loop
-Inv-loop input offset last out₀ answer₀ used₀ written₀ out answer used written =
-    Going input last (answer₀ .core) out₀ (answer .core) used written out
+Inv-loop input offset last out₀ none answer₀ used₀ written₀ out answer used written =
+    Going input offset last (answer₀ .core) out₀ (answer .core) used written out
 
 abbrev μ-loop : tie.MeasureT-loop
-μ-loop input offset last out₀ answer₀ used₀ written₀ out answer used written = length input - used
+μ-loop input offset last out₀ none answer₀ used₀ written₀ out answer used written = length input - used
 
 -- the place where the loop begins anew, and what is lent and held there
 abbrev L : Type 0
@@ -40,6 +42,9 @@ L = tie.At-loop Inv-loop μ-loop
 
 abbrev input : L → List ℕ
 input c = c .before .before .before .args .input .now
+
+abbrev offset : L → ℕ
+offset c = c .before .before .before .args .offset
 
 abbrev last : L → Bool
 last c = c .before .before .before .args .last
@@ -59,7 +64,11 @@ used c = c .loop .used
 abbrev left : L → List ℕ
 left c = drop (used c) (input c)
 
-going : (c : L) → Going (input c) (last c) (first c) (lent c) (core c) (used c) (c .loop .written) (c .loop .out)
+-- where what is left begins, from the start of input
+abbrev from : L → ℕ
+from c = offset c + used c
+
+going : (c : L) → Going (input c) (offset c) (last c) (first c) (lent c) (core c) (used c) (c .loop .written) (c .loop .out)
 going c = c .loop .inv
 
 -- the place where a record was read: bytes were left, and room for a longest line
@@ -67,20 +76,24 @@ abbrev R : Type 0
 R = tie.After-read Inv-loop μ-loop
 
 abbrev again : R → L
-again c = c .before .before .before .before
+again c = c .before .before .before .before .before
 
 some-left : (c : R) → used (again c) < length (input (again c))
-some-left c = c .before .before .before .loop-test .taken
+some-left c = c .before .before .before .before .loop-test .taken
 
 some-room : (c : R) → longest ≤ length (again c .loop .out) - again c .loop .written
-some-room c = c .before .before .if1 .left
+some-room c = c .before .before .before .if1 .left
 
--- the part that is read is all that is left
-read-all : (c : R) → c .read .result ≡ readSpec (left (again c))
+-- the part that is read is all that is left, and it is read with its offset
+read-all : (c : R) → c .read .result ≡ readSpec (from (again c)) (left (again c))
 read-all c =
     let l = again c in
     let some = length-drop (used l) (input l) in
-    read-is _ _ (c .read .ensures) ∙ ap readSpec (take-all (length (input l) - used l) (left l) (omega (arith, some)))
+    let begins-is : c .before .begins .result ≡ told (from l) = omega (arith, c .before .begins .ensures) in
+    read-is _ _ _ (c .read .ensures)
+    ∙ ap (readSpec (c .before .begins .result)) (take-all (length (input l) - used l) (left l) (omega (arith, some)))
+    ∙ ap (λ (n : ℕ). readSpec n (left l)) begins-is
+    ∙ read-told (from l) (left l)
 
 -- the place where it was refused
 abbrev N : Type 0
@@ -89,7 +102,7 @@ N = tie.After-refusal-of Inv-loop μ-loop
 abbrev read-no : N → R
 read-no c = c .before .before .before
 
-refused : (c : N) → readSpec (left (again (read-no c))) ≡ No (c .refusal-of .result)
+refused : (c : N) → readSpec (from (again (read-no c))) (left (again (read-no c))) ≡ No (c .refusal-of .result)
 refused c =
     let told = c .before .enum-told .given .1 in
     sym (read-all (read-no c)) ∙ told ∙ ap (λ (r : Refusal). No r) (sym (c .refusal-of .ensures ∙ ap refusalOf told))
@@ -104,7 +117,7 @@ read-event c = c .before .before
 abbrev event : E → Event
 event c = c .read2 .given .0 .0
 
-is-event : (c : E) → readSpec (left (again (read-event c))) ≡ Got (event c)
+is-event : (c : E) → readSpec (from (again (read-event c))) (left (again (read-event c))) ≡ Got (event c)
 is-event c = sym (read-all (read-event c)) ∙ c .read2 .given .1
 
 -- the place where its call was made
@@ -139,7 +152,7 @@ size-is c = c .size .ensures
 loop-holds : tie.Need-loop-holds Inv-loop μ-loop
 loop-holds c =
     let a = c .before .before .args in
-    going-start (a .input .now) (a .last) (a .core) (a .out .now) (c .before .before .pre)
+    going-start (a .input .now) (a .offset) (a .last) (a .core) (a .out .now) (c .before .before .pre)
 
 sub-if1 : tie.Need-sub-if1 Inv-loop μ-loop
 sub-if1 c = omega (arith, going (c .before) .room)
@@ -148,7 +161,7 @@ same-length : tie.Need-same-length Inv-loop μ-loop
 same-length c = going (c .before .before .before) .size
 
 returns : tie.Need-returns Inv-loop μ-loop
-returns c = going-full _ _ _ _ _ _ _ _ (going (c .before .before .before)) (c .before .if1 .taken)
+returns c = going-full _ _ _ _ _ _ _ _ _ (going (c .before .before .before)) (c .before .if1 .taken)
 
 sub-read : tie.Need-sub-read Inv-loop μ-loop
 sub-read c = search needs
@@ -158,6 +171,9 @@ part-read-start c = search needs
 
 part-read-end : tie.Need-part-read-end Inv-loop μ-loop
 part-read-end c = search needs
+
+begins-requires : tie.Need-begins-requires Inv-loop μ-loop
+begins-requires c κs = search needs
 
 read-requires : tie.Need-read-requires Inv-loop μ-loop
 read-requires c κs = search needs
@@ -181,7 +197,7 @@ returns-2 : tie.Need-returns-2 Inv-loop μ-loop
 returns-2 c =
     let n = c .before .before .before in
     let r = read-no n in
-    going-waits _ _ _ _ _ _ _ _ (going (again r)) (n .refusal-of .result) (some-left r) (some-room r) (refused n)
+    going-waits _ _ _ _ _ _ _ _ _ (going (again r)) (n .refusal-of .result) (some-left r) (some-room r) (refused n)
     (sym (c .before .waits .ensures) ∙ c .if2 .taken)
 
 put-line-requires : tie.Need-put-line-requires Inv-loop μ-loop
@@ -197,7 +213,7 @@ returns-3 c =
     let n = c .before .before .before .before .before .before .before in
     let r = read-no n in
     let p = c .before .before .put-line .ensures in
-    going-stops _ _ _ _ _ _ _ _ (going (again r)) (n .refusal-of .result) (some-left r) (some-room r) (refused n) _ _
+    going-stops _ _ _ _ _ _ _ _ _ (going (again r)) (n .refusal-of .result) (some-left r) (some-room r) (refused n) _ _
     (sym (c .before .before .before .before .before .waits .ensures) ∙ c .before .before .before .before .if2 .left) (p .0) (p .1)
 
 time-of-requires : tie.Need-time-of-requires Inv-loop μ-loop
@@ -223,7 +239,7 @@ add-used c =
     omega (
       arith,
       size-is c,
-      within (left l) (event e) (is-event e),
+      within (from l) (left l) (event e) (is-event e),
       length-drop (used l) (input l),
       some-left r,
       l .before .before .before .good .1 .0,
@@ -240,16 +256,16 @@ loop-again c =
     let l = again r in
     let p = c .before .before .before .put-line2 .ensures in
     subst (λ (k : ℕ).
-    Going (input l) (last l) (first l) (lent l) (t .turn .result .core) (used l + k) (c .before .before .before .put-line2 .result)
-    (c .before .before .before .put-line2 .last .0)) (sym (size-is c))
-    (going-next (input l) (last l) (first l) (lent l) (core l) (used l) (l .loop .written) (l .loop .out) (going l) (event e)
+    Going (input l) (offset l) (last l) (first l) (lent l) (t .turn .result .core) (used l + k)
+    (c .before .before .before .put-line2 .result) (c .before .before .before .put-line2 .last .0)) (sym (size-is c))
+    (going-next (input l) (offset l) (last l) (first l) (lent l) (core l) (used l) (l .loop .written) (l .loop .out) (going l) (event e)
     (t .turn .result) _ _ (some-left r) (some-room r) (is-event e) (called t .0) (called t .1) (p .0) (p .1))
 
 same-length-4 : tie.Need-same-length-4 Inv-loop μ-loop
 same-length-4 c = going (c .before .before) .size
 
 returns-4 : tie.Need-returns-4 Inv-loop μ-loop
-returns-4 c = going-end _ _ _ _ _ _ _ _ (going (c .before .before)) (c .before .loop-test .left)
+returns-4 c = going-end _ _ _ _ _ _ _ _ _ (going (c .before .before)) (c .before .loop-test .left)
 
 pub serve-spec : {M : Type 1} → statement M
 serve-spec =
@@ -264,6 +280,7 @@ serve-spec =
     sub-read
     part-read-start
     part-read-end
+    begins-requires
     read-requires
     enum-known-read
     enum-told

@@ -16,7 +16,7 @@ no-requires : tie.Need-no-requires
 no-requires c κs = search needs
 
 returns : tie.Need-returns
-returns c = c .no .ensures ∙ sym (short-header _ (c .before .if1 .taken))
+returns c = c .no .ensures ∙ sym (short-header _ _ (c .before .if1 .taken))
 
 shared-slice-read-tag : tie.Need-shared-slice-read-tag
 shared-slice-read-tag c = search needs
@@ -37,7 +37,7 @@ returns-2 : tie.Need-returns-2
 returns-2 c =
     let seen = c .before in
     let none = sym (seen .before .before .payload .ensures) ∙ ap paperPayload (seen .enum-told .given .1) in
-    c .no2 .ensures ∙ sym (unknown-tag _ (omega arith) (has-none _ none))
+    c .no2 .ensures ∙ sym (unknown-tag _ _ (omega arith) (has-none _ none))
 
 -- once the length is read: the input, and what its tag asks for
 abbrev asks : tie.After-two → tie.After-asks
@@ -67,7 +67,7 @@ no-requires-3 c κs = search needs
 returns-3 : tie.Need-returns-3
 returns-3 c =
     let h = told (c .before .before) in
-    c .no3 .ensures ∙ sym (other-length _ (omega arith) (h .0) (λ e. c .before .if2 .taken (omega (arith, h .1))))
+    c .no3 .ensures ∙ sym (other-length _ _ (omega arith) (h .0) (λ e. c .before .if2 .taken (omega (arith, h .1))))
 
 sub-rest : tie.Need-sub-rest
 sub-rest c = search needs
@@ -78,7 +78,7 @@ no-requires-4 c κs = search needs
 returns-4 : tie.Need-returns-4
 returns-4 c =
     let h = told (c .before .before .before) in
-    c .no4 .ensures ∙ sym (short-payload _ (omega arith) (h .0) (omega (arith, h .1)) (omega (arith, h .1)))
+    c .no4 .ensures ∙ sym (short-payload _ _ (omega arith) (h .0) (omega (arith, h .1)) (omega (arith, h .1)))
 
 event-requires : tie.Need-event-requires
 event-requires c κs = let h = told (c .before .before) in (refl, h .0, omega (arith, h .1))
@@ -86,7 +86,7 @@ event-requires c κs = let h = told (c .before .before) in (refl, h .0, omega (a
 returns-5 : tie.Need-returns-5
 returns-5 c =
     let h = told (c .before .before .before) in
-    ap event (c .event .ensures) ∙ sym (whole-record _ (h .0) (omega (arith, h .1)) (omega (arith, h .1)))
+    ap event (c .event .ensures) ∙ sym (whole-record _ _ (h .0) (omega (arith, h .1)) (omega (arith, h .1)))
 
 pub read-spec : {M : Type 1} → statement M
 read-spec =

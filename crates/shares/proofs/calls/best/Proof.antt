@@ -3,11 +3,12 @@
 use borrow.Author.Needs.{needs}
 use Rattle.model.specs.Share.{Share, bestOf}
 use Rattle.model.specs.Reply.{gives}
-use Rattle.model.specs.Rows.{within, tasksRow, bestReply}
+use Rattle.model.specs.Rows.{within, bestReply}
 use Rattle.model.proofs.Replies.{is-within}
+use Rattle.model.proofs.TaskRows.{NoTasksRow}
 use Rattle.shares.specs.Private.{Tasks}
 use Rattle.shares.proofs.RowLaws.{tasks-fit, ready}
-use Rattle.shares.proofs.ReplyLaws.{refused-row, refused-33, refused-34, given}
+use Rattle.shares.proofs.ReplyLaws.{refused-row, not-refused, refused-33, refused-34, given}
 use lib.ListN.{length-replicate}
 use mathlib.Core.List.{List, [], _∷_}
 use mathlib.Core.Bool.{true}
@@ -18,27 +19,27 @@ use Rattle.shares.proofs.calls.best.Statement.{statement}
 use Rattle.shares.proofs.calls.best.Tie as tie
 
 -- the rows of the tasks are known
-abbrev start : tie.After-tasks-row → tie.Start
-start c = c .before .before .before
+abbrev start : tie.After-struct-known → tie.Start
+start c = c .before .before .before .before
 
-abbrev ps : tie.After-tasks-row → List ℕ
+abbrev ps : tie.After-struct-known → List ℕ
 ps c = start c .args .periods .now
 
-abbrev es : tie.After-tasks-row → List ℕ
+abbrev es : tie.After-struct-known → List ℕ
 es c = start c .args .costs .now
 
-abbrev P : tie.After-tasks-row → ℕ
+abbrev P : tie.After-struct-known → ℕ
 P c = start c .args .p-max
 
 -- no row refuses the tasks
-no-row : (c : tie.Else1) → tasksRow (ps (c .before)) (es (c .before)) ≡ 0
-no-row c = sym (c .before .tasks-row .ensures) ∙ c .if1 .left
+no-row : (c : tie.Else1) → NoTasksRow (ps (c .before)) (es (c .before))
+no-row c = not-refused (ps (c .before)) (es (c .before)) _ (c .before .before .tasks-row .ensures) (c .if1 .left)
 
 -- nor the period
 abbrev tested : tie.Else2 → tie.Else1
 tested c = c .before .before
 
-abbrev known : tie.Else2 → tie.After-tasks-row
+abbrev known : tie.Else2 → tie.After-struct-known
 known c = tested c .before
 
 fits : (c : tie.Else2) → within (P (known c)) 2000 ≡ true
@@ -63,21 +64,15 @@ home c = accepted (filled (leapt c .before))
 tasks-row-requires : tie.Need-tasks-row-requires
 tasks-row-requires c κs = search needs
 
-refusal-requires : tie.Need-refusal-requires
-refusal-requires c κs = search needs
-
 returns : tie.Need-returns
 unfolding bestReply
-returns c =
-    let k = c .before .before in
-    refused-row (ps k) (es k) _ (k .tasks-row .result) (c .refusal .result) (k .tasks-row .ensures) (c .before .if1 .taken)
-    (c .refusal .ensures)
+returns c = refused-row (ps (c .before)) (es (c .before)) _ _ (c .before .before .tasks-row .ensures) (c .if1 .taken)
 
 is-within-requires : tie.Need-is-within-requires
 is-within-requires c κs = search needs
 
-refusal-requires-2 : tie.Need-refusal-requires-2
-refusal-requires-2 c κs = search needs
+refusal-requires : tie.Need-refusal-requires
+refusal-requires c κs = search needs
 
 returns-2 : tie.Need-returns-2
 unfolding bestReply
@@ -85,7 +80,7 @@ returns-2 c =
     let w = c .before .before in
     let k = w .before .before in
     let no = sym (w .is-within .ensures) ∙ not-true _ (c .before .if2 .taken) in
-    refused-33 (ps k) (es k) (no-row (w .before)) _ (within (P k) 2000) (c .refusal2 .result) no (c .refusal2 .ensures)
+    refused-33 (ps k) (es k) (no-row (w .before)) _ (within (P k) 2000) (c .refusal .result) no (c .refusal .ensures)
 
 fill-requires : tie.Need-fill-requires
 fill-requires c κs = (tasks (c .before), length-replicate {A = ℕ} 32016 0)
@@ -109,14 +104,14 @@ best-share-requires c κs =
     ready (ps k) (es k) _ _ (P k) (no-row (tested (home c))) (is-within (P k) 2000 (fits (home c))) table (leapt c .fill-leaps .ensures)
 
 -- what the search found is taken apart
-abbrev searched : tie.After-struct-known → tie.After-best-share
+abbrev searched : tie.After-struct-known2 → tie.After-best-share
 searched c = c .before
 
-abbrev at : tie.After-struct-known → tie.Else2
+abbrev at : tie.After-struct-known2 → tie.Else2
 at c = home (searched c .before)
 
-refusal-requires-3 : tie.Need-refusal-requires-3
-refusal-requires-3 c κs = search needs
+refusal-requires-2 : tie.Need-refusal-requires-2
+refusal-requires-2 c κs = search needs
 
 returns-3 : tie.Need-returns-3
 unfolding bestReply
@@ -125,8 +120,8 @@ returns-3 c =
     let h = at s in
     let k = known h in
     let e = searched s .best-share .ensures in
-    refused-34 (ps k) (es k) (no-row (tested h)) _ (within (P k) 2000) (bestOf (ps k) (es k) (P k) .budget) (c .refusal3 .result) (fits h)
-    (ap (λ (x : Share). x .budget) (sym e) ∙ c .before .if3 .taken) (c .refusal3 .ensures)
+    refused-34 (ps k) (es k) (no-row (tested h)) _ (within (P k) 2000) (bestOf (ps k) (es k) (P k) .budget) (c .refusal2 .result) (fits h)
+    (ap (λ (x : Share). x .budget) (sym e) ∙ c .before .if3 .taken) (c .refusal2 .ensures)
 
 returns-4 : tie.Need-returns-4
 unfolding bestReply
@@ -144,10 +139,9 @@ best-spec =
     tie.close
     (tie.spec
     tasks-row-requires
-    refusal-requires
     returns
     is-within-requires
-    refusal-requires-2
+    refusal-requires
     returns-2
     fill-requires
     slice-aggregate-fill-leaps
@@ -155,6 +149,6 @@ best-spec =
     slice-aggregate-best-share
     slice-aggregate-best-share-2
     best-share-requires
-    refusal-requires-3
+    refusal-requires-2
     returns-3
     returns-4)

@@ -1,13 +1,14 @@
 -- `check` gives the complete reply of model's specs/Rows.antt: the search from the budget to itself. Its places are named once, each from
 -- the next named one before it. Assumes nothing.
 use borrow.Author.Needs.{needs}
-use Rattle.model.specs.Rows.{inRange, tasksRow, checkReply}
+use Rattle.model.specs.Rows.{inRange, checkReply}
 use Rattle.model.proofs.Replies.{in-range}
+use Rattle.model.proofs.TaskRows.{NoTasksRow}
 use Rattle.shares.specs.Private.{Tasks}
 use Rattle.shares.proofs.Budgets.{one-fails, one-passes}
 use Rattle.shares.proofs.RowLaws.{tasks-fit, ready}
 use Rattle.shares.proofs.LeapLaws.{leaps-zero, zeros}
-use Rattle.shares.proofs.ReplyLaws.{refused-row, refused-33, check-gives}
+use Rattle.shares.proofs.ReplyLaws.{refused-row, not-refused, refused-33, check-gives}
 use lib.ListN.{replicate, length-replicate}
 use mathlib.Core.List.{List}
 use mathlib.Core.Bool.{true, false}
@@ -18,30 +19,30 @@ use Rattle.shares.proofs.calls.check.Statement.{statement}
 use Rattle.shares.proofs.calls.check.Tie as tie
 
 -- the rows of the tasks are known
-abbrev start : tie.After-tasks-row → tie.Start
-start c = c .before .before .before
+abbrev start : tie.After-struct-known → tie.Start
+start c = c .before .before .before .before
 
-abbrev ps : tie.After-tasks-row → List ℕ
+abbrev ps : tie.After-struct-known → List ℕ
 ps c = start c .args .periods .now
 
-abbrev es : tie.After-tasks-row → List ℕ
+abbrev es : tie.After-struct-known → List ℕ
 es c = start c .args .costs .now
 
-abbrev P : tie.After-tasks-row → ℕ
+abbrev P : tie.After-struct-known → ℕ
 P c = start c .args .p
 
-abbrev B : tie.After-tasks-row → ℕ
+abbrev B : tie.After-struct-known → ℕ
 B c = start c .args .b
 
 -- no row refuses the tasks
-no-row : (c : tie.Else1) → tasksRow (ps (c .before)) (es (c .before)) ≡ 0
-no-row c = sym (c .before .tasks-row .ensures) ∙ c .if1 .left
+no-row : (c : tie.Else1) → NoTasksRow (ps (c .before)) (es (c .before))
+no-row c = not-refused (ps (c .before)) (es (c .before)) _ (c .before .before .tasks-row .ensures) (c .if1 .left)
 
 -- nor the share
 abbrev tested : tie.Else2 → tie.Else1
 tested c = c .before .before
 
-abbrev known : tie.Else2 → tie.After-tasks-row
+abbrev known : tie.Else2 → tie.After-struct-known
 known c = tested c .before
 
 fits : (c : tie.Else2) → inRange (P (known c)) (B (known c)) ≡ true
@@ -63,21 +64,15 @@ filled c = c .before .before
 tasks-row-requires : tie.Need-tasks-row-requires
 tasks-row-requires c κs = search needs
 
-refusal-requires : tie.Need-refusal-requires
-refusal-requires c κs = search needs
-
 returns : tie.Need-returns
 unfolding checkReply
-returns c =
-    let k = c .before .before in
-    refused-row (ps k) (es k) _ (k .tasks-row .result) (c .refusal .result) (k .tasks-row .ensures) (c .before .if1 .taken)
-    (c .refusal .ensures)
+returns c = refused-row (ps (c .before)) (es (c .before)) _ _ (c .before .before .tasks-row .ensures) (c .if1 .taken)
 
 is-in-range-requires : tie.Need-is-in-range-requires
 is-in-range-requires c κs = search needs
 
-refusal-requires-2 : tie.Need-refusal-requires-2
-refusal-requires-2 c κs = search needs
+refusal-requires : tie.Need-refusal-requires
+refusal-requires c κs = search needs
 
 returns-2 : tie.Need-returns-2
 unfolding checkReply
@@ -85,7 +80,7 @@ returns-2 c =
     let w = c .before .before in
     let k = w .before .before in
     let no = sym (w .is-in-range .ensures) ∙ not-true _ (c .before .if2 .taken) in
-    refused-33 (ps k) (es k) (no-row (w .before)) _ (inRange (P k) (B k)) (c .refusal2 .result) no (c .refusal2 .ensures)
+    refused-33 (ps k) (es k) (no-row (w .before)) _ (inRange (P k) (B k)) (c .refusal .result) no (c .refusal .ensures)
 
 fill-requires : tie.Need-fill-requires
 fill-requires c κs = (tasks (c .before), length-replicate {A = ℕ} 32016 0)
@@ -130,10 +125,9 @@ check-spec =
     tie.close
     (tie.spec
     tasks-row-requires
-    refusal-requires
     returns
     is-in-range-requires
-    refusal-requires-2
+    refusal-requires
     returns-2
     fill-requires
     slice-aggregate-first-budget

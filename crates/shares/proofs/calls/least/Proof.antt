@@ -3,11 +3,12 @@
 use borrow.Author.Needs.{needs}
 use Rattle.model.specs.Share.{leastOf}
 use Rattle.model.specs.Reply.{gives}
-use Rattle.model.specs.Rows.{within, tasksRow, leastReply}
+use Rattle.model.specs.Rows.{within, leastReply}
 use Rattle.model.proofs.Replies.{is-within}
+use Rattle.model.proofs.TaskRows.{NoTasksRow}
 use Rattle.shares.specs.Private.{Tasks}
 use Rattle.shares.proofs.RowLaws.{tasks-fit, ready}
-use Rattle.shares.proofs.ReplyLaws.{refused-row, refused-33, refused-34, given}
+use Rattle.shares.proofs.ReplyLaws.{refused-row, not-refused, refused-33, refused-34, given}
 use native.Mathlib.Nat.{le-refl}
 use lib.ListN.{length-replicate}
 use mathlib.Core.List.{List, [], _∷_}
@@ -19,27 +20,27 @@ use Rattle.shares.proofs.calls.least.Statement.{statement}
 use Rattle.shares.proofs.calls.least.Tie as tie
 
 -- the rows of the tasks are known
-abbrev start : tie.After-tasks-row → tie.Start
-start c = c .before .before .before
+abbrev start : tie.After-struct-known → tie.Start
+start c = c .before .before .before .before
 
-abbrev ps : tie.After-tasks-row → List ℕ
+abbrev ps : tie.After-struct-known → List ℕ
 ps c = start c .args .periods .now
 
-abbrev es : tie.After-tasks-row → List ℕ
+abbrev es : tie.After-struct-known → List ℕ
 es c = start c .args .costs .now
 
-abbrev P : tie.After-tasks-row → ℕ
+abbrev P : tie.After-struct-known → ℕ
 P c = start c .args .p
 
 -- no row refuses the tasks
-no-row : (c : tie.Else1) → tasksRow (ps (c .before)) (es (c .before)) ≡ 0
-no-row c = sym (c .before .tasks-row .ensures) ∙ c .if1 .left
+no-row : (c : tie.Else1) → NoTasksRow (ps (c .before)) (es (c .before))
+no-row c = not-refused (ps (c .before)) (es (c .before)) _ (c .before .before .tasks-row .ensures) (c .if1 .left)
 
 -- nor the period
 abbrev tested : tie.Else2 → tie.Else1
 tested c = c .before .before
 
-abbrev known : tie.Else2 → tie.After-tasks-row
+abbrev known : tie.Else2 → tie.After-struct-known
 known c = tested c .before
 
 fits : (c : tie.Else2) → within (P (known c)) 2000 ≡ true
@@ -64,21 +65,15 @@ home c = accepted (filled (leapt c .before))
 tasks-row-requires : tie.Need-tasks-row-requires
 tasks-row-requires c κs = search needs
 
-refusal-requires : tie.Need-refusal-requires
-refusal-requires c κs = search needs
-
 returns : tie.Need-returns
 unfolding leastReply
-returns c =
-    let k = c .before .before in
-    refused-row (ps k) (es k) _ (k .tasks-row .result) (c .refusal .result) (k .tasks-row .ensures) (c .before .if1 .taken)
-    (c .refusal .ensures)
+returns c = refused-row (ps (c .before)) (es (c .before)) _ _ (c .before .before .tasks-row .ensures) (c .if1 .taken)
 
 is-within-requires : tie.Need-is-within-requires
 is-within-requires c κs = search needs
 
-refusal-requires-2 : tie.Need-refusal-requires-2
-refusal-requires-2 c κs = search needs
+refusal-requires : tie.Need-refusal-requires
+refusal-requires c κs = search needs
 
 returns-2 : tie.Need-returns-2
 unfolding leastReply
@@ -86,7 +81,7 @@ returns-2 c =
     let w = c .before .before in
     let k = w .before .before in
     let no = sym (w .is-within .ensures) ∙ not-true _ (c .before .if2 .taken) in
-    refused-33 (ps k) (es k) (no-row (w .before)) _ (within (P k) 2000) (c .refusal2 .result) no (c .refusal2 .ensures)
+    refused-33 (ps k) (es k) (no-row (w .before)) _ (within (P k) 2000) (c .refusal .result) no (c .refusal .ensures)
 
 fill-requires : tie.Need-fill-requires
 fill-requires c κs = (tasks (c .before), length-replicate {A = ℕ} 32016 0)
@@ -119,8 +114,8 @@ found : (c : tie.After-least-under) → least (home (c .before)) ≡ c .least-un
 unfolding leastOf
 found c = sym (c .least-under .ensures)
 
-refusal-requires-3 : tie.Need-refusal-requires-3
-refusal-requires-3 c κs = search needs
+refusal-requires-2 : tie.Need-refusal-requires-2
+refusal-requires-2 c κs = search needs
 
 returns-3 : tie.Need-returns-3
 unfolding leastReply
@@ -128,8 +123,8 @@ returns-3 c =
     let s = c .before .before in
     let h = home (s .before) in
     let k = known h in
-    refused-34 (ps k) (es k) (no-row (tested h)) _ (within (P k) 2000) (least h) (c .refusal3 .result) (fits h)
-    (found s ∙ c .before .if3 .taken) (c .refusal3 .ensures)
+    refused-34 (ps k) (es k) (no-row (tested h)) _ (within (P k) 2000) (least h) (c .refusal2 .result) (fits h)
+    (found s ∙ c .before .if3 .taken) (c .refusal2 .ensures)
 
 returns-4 : tie.Need-returns-4
 unfolding leastReply
@@ -145,10 +140,9 @@ least-spec =
     tie.close
     (tie.spec
     tasks-row-requires
-    refusal-requires
     returns
     is-within-requires
-    refusal-requires-2
+    refusal-requires
     returns-2
     fill-requires
     slice-aggregate-fill-leaps
@@ -156,6 +150,6 @@ least-spec =
     slice-aggregate-least-under
     slice-aggregate-least-under-2
     least-under-requires
-    refusal-requires-3
+    refusal-requires-2
     returns-3
     returns-4)

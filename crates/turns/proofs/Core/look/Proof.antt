@@ -12,7 +12,7 @@ use Rattle.turns.specs.declared.Core.{Core}
 use Rattle.turns.specs.Places.{nowhere, seek}
 use Rattle.turns.proofs.Invariant.{SoundCore}
 use Rattle.turns.proofs.Made.{sound}
-use Rattle.turns.proofs.Written.{boundaryIn}
+use Rattle.turns.specs.Steps.{boundaryIn}
 use Rattle.turns.proofs.Questions.{unread, wide-sought, there-sought, absent-sought}
 use Rattle.turns.proofs.Core.look.Statement.{statement}
 use Rattle.turns.proofs.Core.look.Tie as tie

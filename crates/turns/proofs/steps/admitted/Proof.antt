@@ -10,8 +10,8 @@ use Rattle.units.specs.declared.Moment.{Moment}
 use Rattle.turns.specs.declared.Description.{Description}
 use Rattle.turns.specs.declared.Kind.{Kind}
 use Rattle.turns.specs.declared.Vcpu.{Vcpu}
-use Rattle.turns.specs.Written.{kindAs, noTenant, written}
-use Rattle.turns.specs.Steps.{boundaryOf, leftOf}
+use Rattle.turns.specs.Written.{kindAs, boundaryAt, noTenant, written, timerOf}
+use Rattle.turns.specs.Steps.{leftOf}
 use Rattle.turns.proofs.Refill.{newcomer, admits-so}
 use Rattle.turns.proofs.steps.admitted.Statement.{statement}
 use Rattle.turns.proofs.steps.admitted.Tie as tie
@@ -36,9 +36,9 @@ array-set-from-due c = search needs
 
 -- what the calls give, in the record
 given : (d : Description) (now : Moment) (v : Vcpu) (k : Kind) (p m : Moment) (u : Amount) → v ≡ written noTenant → k ≡ kindAs (d .kind)
-    → p ≡ later now (d .period) → m ≡ moment (boundaryOf k (p .0)) → u ≡ leftOf k false (d .capacity)
+    → p ≡ later now (d .period) → m ≡ moment (timerOf (boundaryAt k p)) → u ≡ leftOf k false (d .capacity)
     → newcomer d v (set (v .due) 0 m) u k
-    ≡ newcomer d (written noTenant) (set ((written noTenant) .due) 0 (moment (boundaryOf (kindAs (d .kind)) (later now (d .period) .0))))
+    ≡ newcomer d (written noTenant) (set ((written noTenant) .due) 0 (moment (timerOf (boundaryAt (kindAs (d .kind)) (later now (d .period))))))
     (leftOf (kindAs (d .kind)) false (d .capacity)) (kindAs (d .kind))
 given d now v k p m u e f i g h = rw (g, h, e, f, i)
 
