@@ -83,7 +83,10 @@ mod tests {
             priority: 1,
             kind,
         };
-        let reply = core.turn(0, Change::Admit(new));
+        number(core.turn(0, Change::Admit(new)))
+    }
+
+    fn number(reply: Reply) -> (u8, u64) {
         reply.map_or_else(|refusal| (refusal.number, refusal.detail), |_| (0, 0))
     }
 
@@ -116,5 +119,44 @@ mod tests {
     fn an_admit_is_refused_by_the_first_row_that_applies() {
         try_admits(plain::Core::empty());
         try_admits(twin::Core::empty());
+    }
+
+    /// One that held two ticks leaves a full card: 9 stands behind 6 and before 8, which counts it.
+    fn try_leaving(mut core: impl Scheduler) {
+        for id in 0..32 {
+            assert_eq!(admit(&mut core, id, (10, 3), 0), (0, 0));
+        }
+        let new = |id| {
+            Change::Admit(Description {
+                id,
+                period: 10,
+                capacity: 3,
+                priority: 1,
+                kind: 0,
+            })
+        };
+        let calls = [
+            (0, Change::Wake(5), (0, 0)),
+            (2, Change::Remove(5), (0, 0)),
+            (2, new(5), (9, 10)),
+            (2, new(6), (6, 0)),
+            (2, Change::Remove(5), (7, 0)),
+            (9, new(5 | 1 << 16), (8, 0)),
+            (12, Change::Block(5), (7, 0)),
+            (9, new(5), (9, 10)),
+            (10, new(5 | 1 << 16), (0, 0)),
+            (10, new(5), (8, 0)),
+            (10, Change::Remove(7), (0, 0)),
+            (10, new(5), (0, 0)),
+        ];
+        for (now, change, meant) in calls {
+            assert_eq!(number(core.turn(now, change)), meant, "at {now}");
+        }
+    }
+
+    #[test]
+    fn one_that_left_is_remembered_until_its_time() {
+        try_leaving(plain::Core::empty());
+        try_leaving(twin::Core::empty());
     }
 }

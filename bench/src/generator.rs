@@ -3,8 +3,8 @@
 use crate::call::{Change, Description, Reply};
 use std::fmt::{self, Display, Formatter};
 
-/// What is asked: how many VCPUs; mixed (0), busy (1), or mixed with a third of the VCPUs of each
-/// kind (2); how many calls.
+/// What is asked: how many VCPUs; mixed (0), busy (1), mixed with a third of the VCPUs of each kind
+/// (2), or leaving and coming back, of all kinds too (3); how many calls.
 #[derive(Clone, Copy)]
 pub struct Plan {
     pub vcpus: u64,
@@ -49,9 +49,9 @@ fn id_of(k: u64) -> u32 {
     ((k + 1) * 791900 % 16777216) as u32
 }
 
-/// All are sporadic, but for the mix of the three kinds.
+/// All are sporadic, but for the mixes of the three kinds.
 fn kind_in(mix: u64, d: u64) -> u8 {
-    if mix == 2 {
+    if mix >= 2 {
         (d / 7 % 3) as u8
     } else {
         0
@@ -102,19 +102,33 @@ fn wrong(sel: u64, n: u64, d: u64, kind: u8, last: u64, now: u64) -> (u64, Chang
     }
 }
 
-/// Once in 32 calls a VCPU is removed, and admitted anew by the next call.
-fn mixed(k: u64, n: u64, d: u64, kind: u8, last: u64, timer: u64) -> (u64, Change) {
+/// Nobody leaves: what is comparable with the calls of before request 3.
+fn mixed(n: u64, d: u64, kind: u8, last: u64, timer: u64) -> (u64, Change) {
     let now = (last + d / 32 % 16).min(timer);
     let who = id_of(d / 512 % n);
-    let place = k / 32 % n;
-    match (k % 32, d % 36) {
-        (0, _) => (now, Change::Remove(id_of(place))),
-        (1, _) => (now, Change::Admit(terms(place, d, kind))),
-        (_, 0..=9) => (now, Change::Tick),
-        (_, 10..=19) => (now, Change::Wake(who)),
-        (_, 20..=27) => (now, Change::Block(who)),
-        (_, sel) => wrong(sel, n, d, kind, last, now),
+    match d % 36 {
+        0..=9 => (now, Change::Tick),
+        10..=19 => (now, Change::Wake(who)),
+        20..=27 => (now, Change::Block(who)),
+        sel => wrong(sel, n, d, kind, last, now),
     }
+}
+
+/// A quarter more tenants than VCPUs were asked for, in a round: once in 8 calls one leaves, and the
+/// next call admits the one that left longest ago. The others are of those that are on the card where
+/// all of that was accepted. The steps are longer than in the other runs, so that times come.
+fn leaving(k: u64, n: u64, d: u64, kind: u8, last: u64, timer: u64) -> (u64, Change) {
+    let now = (last + d / 32 % 16 * 8).min(timer);
+    let (tenants, turn) = (n + n / 4 + 1, k / 8);
+    let who = id_of((turn + 1 + d / 512 % n) % tenants);
+    let change = match (k % 8, d % 32) {
+        (0, _) => Change::Remove(id_of(turn % tenants)),
+        (1, _) => Change::Admit(terms((turn + n) % tenants, d, kind)),
+        (_, 0..=11) => Change::Tick,
+        (_, 12..=23) => Change::Wake(who),
+        _ => Change::Block(who),
+    };
+    (now, change)
 }
 
 fn call(k: u64, plan: Plan, s: u64, seen: &Seen) -> (u64, Change) {
@@ -125,7 +139,9 @@ fn call(k: u64, plan: Plan, s: u64, seen: &Seen) -> (u64, Change) {
     } else if k < n + n {
         (seen.last, Change::Wake(id_of(k - n)))
     } else if plan.mix == 0 || plan.mix == 2 {
-        mixed(k, n, d, kind, seen.last, seen.timer)
+        mixed(n, d, kind, seen.last, seen.timer)
+    } else if plan.mix == 3 {
+        leaving(k, n, d, kind, seen.last, seen.timer)
     } else {
         busy(n, d, seen.last, seen.timer)
     }
@@ -178,7 +194,7 @@ mod tests {
 
     #[test]
     fn plain_and_twin_reply_alike() {
-        for mix in 0..=2 {
+        for mix in 0..=3 {
             for vcpus in [1, 8, 32] {
                 let calls = 30_000;
                 let plan = Plan { vcpus, mix, calls };
@@ -194,25 +210,57 @@ mod tests {
 
     #[test]
     fn a_third_of_the_admits_is_of_each_kind() {
-        let mut core = plain::Core::empty();
-        let plan = Plan {
+        for mix in [2, 3] {
+            let mut core = plain::Core::empty();
+            let mut admits = [0; 3];
+            run(plan(mix), |now, change| {
+                if let Change::Admit(new) = change {
+                    admits[usize::from(new.kind)] += 1;
+                }
+                core.turn(now, change)
+            });
+            let all: u64 = admits.iter().sum();
+            assert!(
+                admits
+                    .iter()
+                    .all(|&count| (all / 4..all / 2).contains(&count)),
+                "{admits:?}"
+            );
+        }
+    }
+
+    fn plan(mix: u64) -> Plan {
+        Plan {
             vcpus: 32,
-            mix: 2,
+            mix,
             calls: 30_000,
-        };
-        let mut admits = [0; 3];
-        run(plan, |now, change| {
-            if let Change::Admit(new) = change {
-                admits[usize::from(new.kind)] += 1;
+        }
+    }
+
+    /// Accepted removals, and how often each number is given.
+    fn met(mix: u64) -> (u64, [u64; 13]) {
+        let mut core = plain::Core::empty();
+        let (mut removals, mut numbers) = (0, [0; 13]);
+        run(plan(mix), |now, change| {
+            let reply = core.turn(now, change);
+            match (&reply, change) {
+                (Ok(_), Change::Remove(_)) => removals += 1,
+                (Err(refusal), _) => numbers[usize::from(refusal.number)] += 1,
+                _ => (),
             }
-            core.turn(now, change)
+            reply
         });
-        let all: u64 = admits.iter().sum();
-        assert!(
-            admits
-                .iter()
-                .all(|&count| (all / 4..all / 2).contains(&count)),
-            "{admits:?}"
-        );
+        (removals, numbers)
+    }
+
+    #[test]
+    fn many_leave_and_come_back_in_one_run_and_nobody_in_the_others() {
+        let (removals, numbers) = met(3);
+        assert!(removals > 2_000, "{removals}");
+        assert!([7, 8, 9].iter().all(|&k| numbers[k] > 100), "{numbers:?}");
+        for mix in 0..=2 {
+            let (removals, numbers) = met(mix);
+            assert_eq!((removals, numbers[9]), (0, 0));
+        }
     }
 }

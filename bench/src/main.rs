@@ -18,7 +18,8 @@ use std::os::fd::AsFd;
 const USAGE: &str = "usage: bench COMMAND
   calls plain|twin      the program `pace` in place: its fifteen digits from standard input
   card plain|twin       the program `card` in place: event records to lines
-  records N MIX CALLS   the calls of `calls` as event records (MIX: 0 mixed, 1 busy, 2 thirds)
+  records N MIX CALLS   the calls of `calls` as event records (MIX: 0 mixed, 1 busy, 2 thirds,
+                        3 leaving)
   sizing twin           the program `sizing` in place: best queries alone
   time-sizing PROGRAM [--seed S] [--families N] [--changes N] [--rounds N] [--plain S] [--full 1]";
 

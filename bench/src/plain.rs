@@ -1,6 +1,6 @@
 //! The rules in place, as they are read: a table in no order, each VCPU with a queue of its own. The
 //! queue of a deferrable or polling one is a single entry that stays: its next boundary and its
-//! capacity.
+//! capacity. So the last entry of a queue has the time that a removed one is remembered with.
 
 use crate::call::{refuse, Change, Description, Refusal, Reply, Report, Scheduler};
 use crate::call::{LARGEST_IDENTIFIER, LARGEST_PERIOD, LARGEST_TIME, MOST_PENDING, MOST_VCPUS};
@@ -89,6 +89,12 @@ impl Vcpu {
         }
     }
 
+    /// The time to remember it with, if there is one.
+    fn last_due(&self) -> Option<u64> {
+        let last = usize::from(self.count).checked_sub(1)?;
+        Some(self.due[last])
+    }
+
     /// Up to where it may run.
     fn until(&self, now: u64) -> u64 {
         let used_up = now + u64::from(self.usable);
@@ -118,12 +124,21 @@ fn admitted(new: Description, now: u64) -> Vcpu {
     vcpu
 }
 
+/// One that was removed, until its time comes.
+#[derive(Clone, Copy)]
+struct Gone {
+    id: u32,
+    until: u64,
+}
+
 pub struct Core {
     last: u64,
     timer: Option<u64>,
     running: Option<usize>,
     count: usize,
     table: [Vcpu; MOST_VCPUS],
+    remembered: usize,
+    gone: [Gone; MOST_VCPUS],
 }
 
 impl Core {
@@ -134,6 +149,8 @@ impl Core {
             running: None,
             count: 0,
             table: [FREE; MOST_VCPUS],
+            remembered: 0,
+            gone: [Gone { id: 0, until: 0 }; MOST_VCPUS],
         }
     }
 
@@ -145,7 +162,30 @@ impl Core {
         self.vcpus().iter().position(|vcpu| vcpu.id == id)
     }
 
-    /// Rows 1 to 8 of the reply numbers, with 11, 12 and 10 behind 5; the place in the table that the call speaks of.
+    /// Those whose time has not come at `now`.
+    fn remembered(&self, now: u64) -> impl Iterator<Item = &Gone> {
+        let gone = &self.gone[..self.remembered];
+        gone.iter().filter(move |gone| gone.until > now)
+    }
+
+    fn forget(&mut self, now: u64) {
+        let mut place = 0;
+        while place < self.remembered {
+            if self.gone[place].until > now {
+                place += 1;
+            } else {
+                self.remembered -= 1;
+                self.gone[place] = self.gone[self.remembered];
+            }
+        }
+    }
+
+    fn remember(&mut self, id: u32, until: u64) {
+        self.gone[self.remembered] = Gone { id, until };
+        self.remembered += 1;
+    }
+
+    /// Rows 1 to 8 of the reply numbers, with 11, 12 and 10 behind 5 and 9 behind 6; the place in the table that the call speaks of.
     fn judge(&self, now: u64, change: &Change) -> Result<usize, Refusal> {
         if now > LARGEST_TIME {
             return refuse(1);
@@ -159,7 +199,7 @@ impl Core {
         }
         match *change {
             Change::Tick => Ok(0),
-            Change::Admit(new) => self.free_place(new),
+            Change::Admit(new) => self.free_place(new, now),
             Change::Wake(id) | Change::Block(id) | Change::Remove(id) => {
                 if id > LARGEST_IDENTIFIER {
                     return refuse(4);
@@ -169,7 +209,7 @@ impl Core {
         }
     }
 
-    fn free_place(&self, new: Description) -> Result<usize, Refusal> {
+    fn free_place(&self, new: Description, now: u64) -> Result<usize, Refusal> {
         if new.id > LARGEST_IDENTIFIER {
             return refuse(4);
         }
@@ -188,7 +228,13 @@ impl Core {
         if self.find(new.id).is_some() {
             return refuse(6);
         }
-        if self.count == MOST_VCPUS {
+        if let Some(gone) = self.remembered(now).find(|gone| gone.id == new.id) {
+            return Err(Refusal {
+                number: 9,
+                detail: gone.until,
+            });
+        }
+        if self.count + self.remembered(now).count() >= MOST_VCPUS {
             return refuse(8);
         }
         Ok(self.count)
@@ -199,7 +245,10 @@ impl Core {
             Change::Tick => (),
             Change::Wake(_) => self.table[place].set_runnable(true),
             Change::Block(_) => self.table[place].set_runnable(false),
-            Change::Remove(_) => {
+            Change::Remove(id) => {
+                if let Some(until) = self.table[place].last_due() {
+                    self.remember(id, until);
+                }
                 self.count -= 1;
                 self.table[place] = self.table[self.count];
             }
@@ -249,6 +298,7 @@ impl Scheduler for Core {
         for vcpu in &mut self.table[..self.count] {
             vcpu.give_back(now);
         }
+        self.forget(now);
         self.change(change, place, now);
         self.running = self.choose();
         let chosen = self.running.map(|place| &self.table[place]);

@@ -1,5 +1,6 @@
 //! The algorithm of the crate `turns`, in place: a table sorted by urgency, identifiers beside it,
 //! a time above all for none. The next boundary of one that has no queue stands at its front.
+//! Remembered identifiers and their times have arrays of their own.
 
 use crate::call::{refuse, Change, Description, Refusal, Reply, Report, Scheduler};
 use crate::call::{LARGEST_IDENTIFIER, LARGEST_PERIOD, LARGEST_TIME, MOST_PENDING, MOST_VCPUS};
@@ -90,6 +91,11 @@ impl Vcpu {
         self.runnable = runnable;
     }
 
+    /// What it is remembered with: the last of its queue, or its boundary, or a time above all.
+    fn latest(&self) -> u64 {
+        self.due[usize::from(self.count).max(1) - 1]
+    }
+
     /// Its own next boundary; the one that runs is not asked for its returns.
     fn own(&self) -> u64 {
         if self.kind == SPORADIC {
@@ -123,6 +129,9 @@ pub struct Core {
     timer: u64,
     running: usize,
     n: usize,
+    gone: [u32; MOST_VCPUS],
+    until: [u64; MOST_VCPUS],
+    g: usize,
 }
 
 impl Core {
@@ -134,6 +143,9 @@ impl Core {
             timer: NEVER,
             running: MOST_VCPUS,
             n: 0,
+            gone: [NOBODY; MOST_VCPUS],
+            until: [NEVER; MOST_VCPUS],
+            g: 0,
         }
     }
 
@@ -156,7 +168,7 @@ impl Core {
         }
         match *change {
             Change::Tick => Ok(0),
-            Change::Admit(new) => self.judge_admit(new),
+            Change::Admit(new) => self.judge_admit(new, now),
             Change::Wake(id) | Change::Block(id) | Change::Remove(id) => self.judge_named(id),
         }
     }
@@ -172,7 +184,7 @@ impl Core {
         Ok(at)
     }
 
-    fn judge_admit(&self, new: Description) -> Result<usize, Refusal> {
+    fn judge_admit(&self, new: Description, now: u64) -> Result<usize, Refusal> {
         if new.id > LARGEST_IDENTIFIER {
             return refuse(4);
         }
@@ -191,10 +203,40 @@ impl Core {
         if self.find(new.id) < MOST_VCPUS {
             return refuse(6);
         }
-        if self.n == MOST_VCPUS {
+        self.judge_gone(new.id, now)
+    }
+
+    /// Row 9, and row 8 with those whose time has not come.
+    fn judge_gone(&self, id: u32, now: u64) -> Result<usize, Refusal> {
+        let mut taken = self.n;
+        for k in 0..self.g {
+            if now < self.until[k] {
+                if self.gone[k] == id {
+                    return Err(Refusal {
+                        number: 9,
+                        detail: self.until[k],
+                    });
+                }
+                taken += 1;
+            }
+        }
+        if taken >= MOST_VCPUS {
             return refuse(8);
         }
         Ok(0)
+    }
+
+    /// The others keep their order.
+    fn forget(&mut self, now: u64) {
+        let mut kept = 0;
+        for k in 0..self.g {
+            if now < self.until[k] {
+                self.gone[kept] = self.gone[k];
+                self.until[kept] = self.until[k];
+                kept += 1;
+            }
+        }
+        self.g = kept;
     }
 
     fn admit(&mut self, new: Description, now: u64) {
@@ -210,6 +252,12 @@ impl Core {
     }
 
     fn remove(&mut self, at: usize) {
+        let until = self.places[at].latest();
+        if until != NEVER {
+            self.gone[self.g] = self.ids[at];
+            self.until[self.g] = until;
+            self.g += 1;
+        }
         self.places.copy_within(at + 1.., at);
         self.ids.copy_within(at + 1.., at);
         self.places[MOST_VCPUS - 1] = VACANT;
@@ -263,6 +311,7 @@ impl Scheduler for Core {
                 v.give_back(now);
             }
         }
+        self.forget(now);
         match change {
             Change::Tick => (),
             Change::Admit(new) => self.admit(new, now),

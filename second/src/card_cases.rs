@@ -6,6 +6,7 @@ use crate::offsets;
 use crate::reached::Reached;
 use crate::refusal::Refusal;
 use crate::row_cases;
+use crate::stay_cases;
 use crate::turns::{Call, Change, Charged, Core, Description, Reply, Vcpu};
 use crate::turns::{LARGEST_IDENTIFIER, LARGEST_PERIOD, LARGEST_TIME, MOST_PENDING, MOST_VCPUS};
 use std::collections::BTreeSet;
@@ -18,6 +19,7 @@ pub struct Notes {
     at_one_moment: u32,
     folded: BTreeSet<u32>,
     kinds: kind_cases::Notes,
+    pub stays: stay_cases::Notes,
 }
 
 /// What a case needs to know of the card before the call.
@@ -30,6 +32,7 @@ pub struct Before {
     was_runnable: bool,
     returns: Vec<(bool, usize)>,
     kinds: kind_cases::Before,
+    stays: stay_cases::Before,
 }
 
 fn identifier(change: &Change) -> Option<u32> {
@@ -68,6 +71,7 @@ pub fn before(core: &Core, call: &Call, notes: &Notes) -> Before {
         was_runnable: vcpu.is_some_and(|vcpu| vcpu.runnable()),
         returns: core.vcpus.values().map(returning).collect(),
         kinds: kind_cases::before(core, call, named, &notes.kinds),
+        stays: stay_cases::before(core, call, named),
     }
 }
 
@@ -80,7 +84,11 @@ pub fn note(
     reached: &mut Reached,
 ) {
     match answer {
-        Err(refusal) => note_refusal(before, call, refusal, core, reached),
+        Err(refusal) => {
+            note_refusal(before, call, refusal, core, reached);
+            let word = word(&call.change);
+            stay_cases::note_refusal(&before.stays, call, word, refusal, &mut notes.stays, reached);
+        }
         Ok(reply) => {
             reached.add(format!("{} ok", word(&call.change)));
             note_time(before, call, reached);
@@ -92,6 +100,9 @@ pub fn note(
             note_timer(reply, core, reached);
             let held = before.running.as_ref().map(|vcpu| vcpu.description.identifier);
             kind_cases::note(&before.kinds, call, core, held, &mut notes.kinds, reached);
+            let folded = identifier(&call.change).is_some_and(|named| notes.folded.contains(&named));
+            stay_cases::note(&before.stays, call, core, held, folded, &mut notes.stays, reached);
+            notes.folded.retain(|identifier| core.vcpus.contains_key(identifier));
         }
     }
 }
@@ -163,9 +174,6 @@ fn note_charge(before: &Before, call: &Call, core: &Core, notes: &mut Notes, rea
         Charged::Fold => drop(notes.folded.insert(identifier)),
         Charged::Entry => drop(notes.folded.remove(&identifier)),
         _ => (),
-    }
-    if !core.vcpus.contains_key(&identifier) {
-        notes.folded.remove(&identifier);
     }
 }
 
@@ -254,6 +262,7 @@ pub fn asked() -> Vec<String> {
     all.extend(endings::all_cases());
     all.extend(kind_cases::asked());
     all.extend(row_cases::asked());
+    all.extend(stay_cases::asked());
     all.extend(offsets::asked());
     for word in ["admit", "wake", "block", "remove", "tick"] {
         all.push(format!("{word} ok"));

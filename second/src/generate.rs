@@ -3,6 +3,7 @@
 
 use crate::card_cases::{self, Notes};
 use crate::endings;
+use crate::leaving;
 use crate::lines::{self, Card};
 use crate::random::Random;
 use crate::reached::Reached;
@@ -69,8 +70,10 @@ const MOODS: [Mood; 10] = [
     Mood { most: 3, periods: (90, 900), capacities: Capacities::Many, blinks: true, ..CALM },
 ];
 
-/// How many calls go by from one refused admit to the next, about.
+/// How many calls go by from one refused admit to the next, about, and from one who comes back
+/// or leaves to the next.
 const REFUSED_ONCE_IN: u64 = 25;
+const LEAVES_ONCE_IN: u64 = 12;
 
 /// Which kinds a run admits. A run of sporadic ones alone is, but for the byte of its kind,
 /// the run of document 01: nothing more is drawn for it.
@@ -90,6 +93,11 @@ pub struct Generator<'a> {
     kinds: Kinds,
     /// What refused admits between the calls are drawn from, if there are any.
     refused: Option<Random>,
+    /// What those who leave and come back between the calls are drawn from, if there are any.
+    leaving: Option<Random>,
+    /// As before request 3: nobody is remembered.
+    #[cfg(test)]
+    forgets: bool,
     pool: Vec<u32>,
     core: Core,
     notes: Notes,
@@ -100,8 +108,20 @@ pub struct Generator<'a> {
 /// The run of a seed and a place, of about so many records.
 pub fn run(seed: u64, place: u64, length: u64, reached: &mut Reached) -> Run {
     let mut generator = Generator::new(kinds_at(place), seed, place, reached);
-    generator.refused = Some(Random::new(generator.random.clone().next()));
+    let mut others = generator.random.clone();
+    generator.refused = Some(Random::new(others.next()));
+    generator.leaving = Some(Random::new(others.next()));
     generator.write(place, length)
+}
+
+/// The script that a run of this place begins with, if it does: a quarter of the runs, in each
+/// mood but that which leaps over nearly all of time. They are gone through one by one.
+fn script_at(place: u64) -> Option<u64> {
+    let moods = MOODS.len();
+    let (tens, mood) = (place / moods as u64, (place % moods as u64) as usize);
+    let fits = tens % KINDS.len() as u64 == 0 && !MOODS[mood].late;
+    let fitting = |some: &[Mood]| some.iter().filter(|mood| !mood.late).count() as u64;
+    fits.then(|| tens / KINDS.len() as u64 * fitting(&MOODS) + fitting(&MOODS[..mood]))
 }
 
 fn kinds_at(place: u64) -> Kinds {
@@ -119,6 +139,26 @@ fn identifiers(random: &mut Random) -> Vec<u32> {
     pool
 }
 
+/// One byte of the payload becomes another, but not the kind where all are sporadic.
+fn damage(record: &mut [u8], kinds: Kinds, random: &mut Random, reached: &mut Reached) {
+    let kind = record.len() - 1;
+    let place = match (record[0], kinds) {
+        (1, Kinds::Sporadic) => records::HEADER + random.index(kind - records::HEADER),
+        (1, _) if random.once_in(4) => kind,
+        _ => records::HEADER + random.index(record.len() - records::HEADER),
+    };
+    record[place] ^= random.between(1, 255) as u8;
+    let field = match place {
+        3..=10 => "time",
+        11..=13 => "identifier",
+        14..=17 => "period",
+        18..=21 => "capacity",
+        22 => "priority",
+        _ => "kind",
+    };
+    reached.add(format!("{field} of tag {} damaged", record[0]));
+}
+
 impl Generator<'_> {
     fn new(kinds: Kinds, seed: u64, place: u64, reached: &mut Reached) -> Generator<'_> {
         let mut random = Random::new(seed.wrapping_mul(1_000_003).wrapping_add(place));
@@ -127,10 +167,24 @@ impl Generator<'_> {
         let core = Core::new();
         let run = Run::default();
         let notes = Notes::default();
-        Generator { random, mood, kinds, refused: None, pool, core, notes, run, reached }
+        Generator {
+            random,
+            mood,
+            kinds,
+            refused: None,
+            leaving: None,
+            #[cfg(test)]
+            forgets: false,
+            pool,
+            core,
+            notes,
+            run,
+            reached,
+        }
     }
 
     fn write(mut self, place: u64, length: u64) -> Run {
+        self.put_script(place);
         self.fill(length);
         self.finish(place);
         self.run
@@ -153,11 +207,52 @@ impl Generator<'_> {
             let call = self.call();
             let mut record = records::write(&call);
             if self.random.once_in(60) {
-                self.damage(&mut record);
+                damage(&mut record, self.kinds, &mut self.random, self.reached);
             }
             self.put(record);
             self.put_refused();
+            self.put_leaving();
         }
+    }
+
+    fn put_script(&mut self, place: u64) {
+        let (Some(random), Some(number)) = (&mut self.leaving, script_at(place)) else { return };
+        for call in leaving::calls(number, &self.core, random) {
+            self.put(records::write(&call));
+        }
+    }
+
+    /// Now and then somebody leaves, or one who left comes back, too early or not.
+    fn put_leaving(&mut self) {
+        let Some(mut random) = self.leaving.take() else { return };
+        if random.once_in(LEAVES_ONCE_IN) {
+            let mut record = records::write(&self.leaving_call(&mut random));
+            if random.once_in(6) {
+                // A run keeps to its kinds.
+                damage(&mut record, Kinds::Sporadic, &mut random, self.reached);
+            }
+            self.put(record);
+        }
+        self.leaving = Some(random);
+    }
+
+    fn leaving_call(&self, random: &mut Random) -> Call {
+        let last = self.core.last;
+        let latest = self.core.timer.unwrap_or(LARGEST_TIME).min(LARGEST_TIME);
+        let gone: Vec<(u32, u64)> = self.core.remembered.iter().map(|(&who, &until)| (who, until)).collect();
+        let stays: Vec<u32> = self.core.vcpus.keys().copied().collect();
+        if gone.is_empty() || random.once_in(4) && !stays.is_empty() {
+            let time = random.between(last, latest.min(last + self.mood.step));
+            let change = if stays.is_empty() { Change::Tick } else { Change::Remove(*random.pick(&stays)) };
+            return Call { time, change };
+        }
+        let (identifier, until) = *random.pick(&gone);
+        let time = [until, until, until - 1, last][random.index(4)].clamp(last, latest);
+        let mut description = self.notes.stays.last_terms(identifier).expect("it was on the card");
+        if random.once_in(3) {
+            description.period += 1;
+        }
+        Call { time, change: Change::Admit(description) }
     }
 
     /// Now and then an admit that some row refuses. A refusal changes nothing, so the calls
@@ -191,8 +286,10 @@ impl Generator<'_> {
         };
         let kind = *random.pick(&[0, 1, 2, 0, 1, 2, 3, 255]);
         let on_card: Vec<u32> = self.core.vcpus.keys().copied().collect();
-        let known = random.once_in(2) && !on_card.is_empty();
-        let identifier = *random.pick(if known { &on_card } else { &self.pool });
+        let gone: Vec<u32> = self.core.remembered.keys().copied().collect();
+        let known = if random.once_in(3) && !gone.is_empty() { gone } else { on_card };
+        let is_known = random.once_in(2) && !known.is_empty();
+        let identifier = *random.pick(if is_known { &known } else { &self.pool });
         let description = Description { identifier, period, capacity, priority: 1, kind };
         Call { time, change: Change::Admit(description) }
     }
@@ -214,6 +311,10 @@ impl Generator<'_> {
         let (call, _) = records::read(&record).expect("a whole record");
         let before = card_cases::before(&self.core, &call, &self.notes);
         let answer = self.core.call(&call);
+        #[cfg(test)]
+        if self.forgets {
+            self.core.remembered.clear();
+        }
         card_cases::note(&before, &call, &answer, &self.core, &mut self.notes, self.reached);
         self.run.lines.push(lines::line(&answer));
         self.run.records.push(record);
@@ -238,26 +339,6 @@ impl Generator<'_> {
             self.run.records.push(ending.record);
             self.run.lines.push(lines);
         }
-    }
-
-    /// One byte of the payload becomes another.
-    fn damage(&mut self, record: &mut [u8]) {
-        let kind = record.len() - 1;
-        let place = match (record[0], self.kinds) {
-            (1, Kinds::Sporadic) => records::HEADER + self.random.index(kind - records::HEADER),
-            (1, _) if self.random.once_in(4) => kind,
-            _ => records::HEADER + self.random.index(record.len() - records::HEADER),
-        };
-        record[place] ^= self.random.between(1, 255) as u8;
-        let field = match place {
-            3..=10 => "time",
-            11..=13 => "identifier",
-            14..=17 => "period",
-            18..=21 => "capacity",
-            22 => "priority",
-            _ => "kind",
-        };
-        self.reached.add(format!("{field} of tag {} damaged", record[0]));
     }
 
     fn call(&mut self) -> Call {
@@ -321,7 +402,8 @@ impl Generator<'_> {
             return self.admit_unknown_kind();
         }
         let count = self.core.vcpus.len();
-        let filling = count < self.mood.most && self.random.below(10) < 3;
+        let taken = count + self.core.remembered_count(self.core.last);
+        let filling = taken < self.mood.most && self.random.below(10) < 3;
         if filling || count == 0 && !self.random.once_in(10) {
             return self.admit();
         }
@@ -477,7 +559,10 @@ mod tests {
     fn summed(kinds: impl Fn(u64) -> Kinds, written: impl Fn(&[u8]) -> Vec<u8>) -> (u64, u64) {
         let (mut sum, mut count) = (0xcbf2_9ce4_8422_2325, 0);
         for place in 0..1000 {
-            let run = Generator::new(kinds(place), 1, place, &mut Reached::default()).write(place, 400);
+            let mut reached = Reached::default();
+            let mut generator = Generator::new(kinds(place), 1, place, &mut reached);
+            generator.forgets = true;
+            let run = generator.write(place, 400);
             for (record, line) in whole(&run) {
                 join(&mut sum, &written(record));
                 join(&mut sum, without_split(line).as_bytes());
@@ -487,9 +572,10 @@ mod tests {
         (sum, count)
     }
 
-    /// Every run of document 01 gives with the kind 0 the lines that it gave before. The sum
-    /// is that of the second program before request 1 (commit 024849a), over the whole
-    /// records and the lines of its `run(1, place, 400, ..)` for these places.
+    /// Every run of document 01 gives, with the kind 0 and on a card that remembers nobody, the
+    /// lines that it gave before. The sum is that of the second program before request 1 (commit
+    /// 024849a), over the whole records and the lines of its `run(1, place, 400, ..)` for these
+    /// places.
     #[test]
     fn runs_of_document_01_give_the_lines_they_gave() {
         assert_eq!(summed(|_| Kinds::Sporadic, without_kind), (0xf03b_46e7_ffe3_63b0, 385_693));
@@ -500,6 +586,14 @@ mod tests {
     #[test]
     fn runs_of_request_1_give_the_lines_they_gave() {
         assert_eq!(summed(kinds_at, <[u8]>::to_vec), (0x98f7_a902_7335_27f2, 387_199));
+    }
+
+    /// Each of them twice or more in the smallest comparison, and none left out.
+    #[test]
+    fn the_scripts_are_gone_through_one_by_one() {
+        let numbers: Vec<u64> = (0..300).filter_map(script_at).collect();
+        assert!(numbers.iter().copied().eq(0..numbers.len() as u64), "{numbers:?}");
+        assert!(numbers.len() >= 2 * leaving::COUNT, "{}", numbers.len());
     }
 
     /// The whole records with their lines.
@@ -515,7 +609,10 @@ mod tests {
         for place in 0..100 {
             let without =
                 Generator::new(kinds_at(place), 1, place, &mut Reached::default()).write(place, 100);
-            let with = run(1, place, 100, &mut Reached::default());
+            let mut reached = Reached::default();
+            let mut generator = Generator::new(kinds_at(place), 1, place, &mut reached);
+            generator.refused = Some(Random::new(generator.random.clone().next()));
+            let with = generator.write(place, 100);
             let mut left = whole(&without).into_iter().peekable();
             let is_added = |both: &(&Vec<u8>, &String)| left.next_if(|next| next == both).is_none();
             let added: Vec<_> = whole(&with).into_iter().filter(is_added).collect();

@@ -8,6 +8,7 @@ mod endings;
 mod ends;
 mod generate;
 mod kind_cases;
+mod leaving;
 mod lines;
 mod offsets;
 mod outside;
@@ -18,12 +19,15 @@ mod reached;
 mod records;
 mod row_cases;
 mod sizing;
+mod stay_cases;
 mod stays;
 mod turns;
 mod ways;
 mod words;
 #[cfg(test)]
 mod wrong_cards;
+#[cfg(test)]
+mod wrong_memories;
 #[cfg(test)]
 mod wrong_replies;
 #[cfg(test)]

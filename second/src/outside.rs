@@ -1,9 +1,10 @@
-//! `outside`: what a stay may hold, that none waits with ticks and that no timer stands still,
-//! checked from the lines that the given program wrote and the records it was given, and from
-//! nothing else. Who runs from one time to the next stands in the lines; periods, capacities
-//! and kinds stand in the admits, and who is runnable follows from the wakes and blocks that
-//! were accepted. A refusal is checked as far as the records alone say what it is: where a bad
-//! record begins, and what is wrong with an admit's terms.
+//! `outside`: what all stays of an identifier may hold, that none waits with ticks and that no
+//! timer stands still, checked from the lines that the given program wrote and the records it
+//! was given, and from nothing else. Who runs from one time to the next stands in the lines;
+//! periods, capacities and kinds stand in the admits, and who is runnable follows from the wakes
+//! and blocks that were accepted. A refusal is checked as far as the records and the stays say
+//! what it is: where a bad record begins, what is wrong with an admit's terms, who is on the
+//! card, and who is remembered and up to when. The rows of the time are not looked into.
 
 use crate::generate::{self, Run};
 use crate::lines;
@@ -12,8 +13,8 @@ use crate::reached::Reached;
 use crate::records;
 use crate::refusal::Refusal;
 use crate::row_cases;
-use crate::stays::{Counts, OfKind, Stay};
-use crate::turns::{Call, Change};
+use crate::stays::{self, Counts, OfKind, Stay};
+use crate::turns::{Change, Description, MOST_VCPUS};
 use crate::words;
 use std::collections::BTreeMap;
 
@@ -49,24 +50,15 @@ pub fn read_line(line: &str) -> Result<Result<Told, Refusal>, String> {
     }
 }
 
-/// The rows that a record alone decides.
-const DECIDED: [u32; 7] = [20, 21, 22, 5, 11, 12, 10];
-
-/// The refusal by one of them, if it meets one.
-fn decided(record: &[u8], offset: u64) -> Option<Refusal> {
-    match records::read(record) {
-        Err(number) => Some(Refusal { number, detail: offset }),
-        Ok((Call { change: Change::Admit(description), .. }, _)) => {
-            let rows = row_cases::of_terms(&description);
-            rows.iter().find(|(_, applies)| *applies).map(|&(number, _)| Refusal { number, detail: 0 })
-        }
-        Ok(_) => None,
-    }
-}
+/// The rows of the time, which go before those of a call.
+const OF_TIME: [u32; 3] = [1, 2, 3];
 
 /// The card seen from outside.
 struct View<'a> {
     stays: BTreeMap<u32, Stay>,
+    /// The stays that have ended, in their order, and up to when the identifier is remembered.
+    ended: BTreeMap<u32, Vec<Stay>>,
+    until: BTreeMap<u32, u64>,
     on_core: Option<u32>,
     since: u64,
     counts: &'a mut Counts,
@@ -76,35 +68,76 @@ impl View<'_> {
     /// The record that begins at `offset`, and its line.
     fn take(&mut self, record: &[u8], offset: u64, line: &str) -> Result<(), String> {
         let told = read_line(line)?;
-        let refusal = told.as_ref().err().copied();
-        let meant = decided(record, offset);
-        if !self.bears_out(meant, refusal) {
+        let meant = self.decided(record, offset);
+        if !self.bears_out(meant, told.as_ref().err().copied()) {
             let (words, _) = words::front_in_words(record);
             let meant = meant.map_or("another\n".to_string(), |meant| lines::line(&Err(meant)));
             let meant = meant.trim_end();
             return Err(format!("{words}, which begins at {offset}, gives {line}: meant is {meant}"));
         }
+        self.follow(record, told)
+    }
+
+    /// What was accepted, rightly or not.
+    fn follow(&mut self, record: &[u8], told: Result<Told, Refusal>) -> Result<(), String> {
         match (records::read(record), told) {
             (Ok((call, _)), Ok(told)) => self.accept(&call.change, &told),
             _ => Ok(()),
         }
     }
 
-    /// Whether a refusal, or none, is what the record alone decides. A row of the time goes
-    /// before those of an admit's terms.
-    fn bears_out(&mut self, meant: Option<Refusal>, refusal: Option<Refusal>) -> bool {
-        let is_one_of = |rows: &[u32]| refusal.is_some_and(|refusal| rows.contains(&refusal.number));
-        match meant {
-            None => !is_one_of(&DECIDED),
-            Some(Refusal { number: 20..=22, .. }) => {
-                self.counts.stops += 1;
-                refusal == meant
-            }
-            Some(_) => {
-                self.counts.terms += u64::from(refusal == meant);
-                refusal == meant || is_one_of(&[1, 2, 3])
+    /// The refusal that the record has, but for a row of the time.
+    fn decided(&self, record: &[u8], offset: u64) -> Option<Refusal> {
+        let call = match records::read(record) {
+            Err(number) => return Some(Refusal { number, detail: offset }),
+            Ok((call, _)) => call,
+        };
+        match call.change {
+            Change::Tick => None,
+            Change::Admit(description) => self.decided_admit(&description, call.time),
+            Change::Wake(identifier) | Change::Block(identifier) | Change::Remove(identifier) => {
+                let on_card = self.stays.contains_key(&identifier);
+                (!on_card).then_some(Refusal { number: 7, detail: 0 })
             }
         }
+    }
+
+    /// By its terms, by who is on the card and by who is remembered at its time.
+    fn decided_admit(&self, description: &Description, now: u64) -> Option<Refusal> {
+        let identifier = description.identifier;
+        let mut rows = row_cases::of_terms(description).to_vec();
+        rows.push((6, self.stays.contains_key(&identifier)));
+        let until = self.remembered(now).find(|&(other, _)| other == identifier).map(|(_, until)| until);
+        rows.push((9, until.is_some()));
+        rows.push((8, self.stays.len() + self.remembered(now).count() >= MOST_VCPUS));
+        let number = rows.into_iter().find(|&(_, applies)| applies).map(|(row, _)| row)?;
+        let detail = if number == 9 { until? } else { 0 };
+        Some(Refusal { number, detail })
+    }
+
+    fn remembered(&self, now: u64) -> impl Iterator<Item = (u32, u64)> + '_ {
+        self.until
+            .iter()
+            .map(|(&identifier, &until)| (identifier, until))
+            .filter(move |&(_, until)| now < until)
+    }
+
+    /// Whether a refusal, or none, is what is decided.
+    fn bears_out(&mut self, meant: Option<Refusal>, refusal: Option<Refusal>) -> bool {
+        let by_time = refusal.is_some_and(|refusal| OF_TIME.contains(&refusal.number));
+        let bad = meant.is_some_and(|meant| (20..=22).contains(&meant.number));
+        if !bad && by_time {
+            return true;
+        }
+        let Counts { stops, terms, remembered, full, .. } = self.counts;
+        match meant.map(|meant| meant.number) {
+            Some(20..=22) => *stops += 1,
+            Some(5 | 10..=12) => *terms += 1,
+            Some(9) => *remembered += 1,
+            Some(8) => *full += 1,
+            _ => (),
+        }
+        refusal == meant
     }
 
     fn accept(&mut self, change: &Change, told: &Told) -> Result<(), String> {
@@ -125,18 +158,27 @@ impl View<'_> {
     fn change(&mut self, change: &Change, now: u64) -> Result<(), String> {
         match change {
             Change::Admit(description) => {
-                self.stays.insert(description.identifier, Stay::new(description, now)?);
+                let identifier = description.identifier;
+                self.counts.back += u64::from(self.ended.contains_key(&identifier));
+                self.counts.in_time += u64::from(self.until.get(&identifier) == Some(&now));
+                self.stays.insert(identifier, Stay::new(description, now)?);
             }
-            Change::Remove(identifier) => {
-                if let Some(stay) = self.stays.remove(identifier) {
-                    stay.check(self.counts)?;
-                }
-            }
+            Change::Remove(identifier) => self.end(*identifier, now),
             Change::Wake(identifier) => self.leave(identifier, true),
             Change::Block(identifier) => self.leave(identifier, false),
             Change::Tick => (),
         }
         Ok(())
+    }
+
+    /// No earlier stay can ask for more time: the identifier came back when that was over.
+    fn end(&mut self, identifier: u32, now: u64) {
+        let Some(stay) = self.stays.remove(&identifier) else { return };
+        match stay.remembered_until(now) {
+            Some(until) => self.until.insert(identifier, until),
+            None => self.until.remove(&identifier),
+        };
+        self.ended.entry(identifier).or_default().push(stay);
     }
 
     fn leave(&mut self, identifier: &u32, runnable: bool) {
@@ -166,6 +208,15 @@ impl View<'_> {
         }
     }
 
+    /// Of all stays, those that last too.
+    fn check_held(self) -> Result<(), String> {
+        let View { stays, mut ended, counts, .. } = self;
+        for (identifier, stay) in stays {
+            ended.entry(identifier).or_default().push(stay);
+        }
+        ended.values().try_for_each(|stays| stays::check_all(stays, counts))
+    }
+
     fn compare_usable(&mut self, told: &Told) -> Result<(), String> {
         let Some(identifier) = told.run else { return Ok(()) };
         let Some(stay) = self.stays.get(&identifier) else {
@@ -186,22 +237,37 @@ impl View<'_> {
     }
 }
 
+fn view(counts: &mut Counts) -> View<'_> {
+    let (stays, ended, until) = Default::default();
+    View { stays, ended, until, on_core: None, since: 0, counts }
+}
+
 pub fn check_run(run: &Run, output: &str, counts: &mut Counts) -> Result<(), String> {
     let lines: Vec<&str> = output.lines().collect();
     if lines.len() != run.records.len() {
         return Err(format!("{} lines for {} records", lines.len(), run.records.len()));
     }
-    let mut view = View { stays: BTreeMap::new(), on_core: None, since: 0, counts };
+    let mut view = view(counts);
     let mut offset = 0;
     for (place, (record, line)) in run.records.iter().zip(lines).enumerate() {
         view.take(record, offset, line).map_err(|error| format!("record {}: {error}", place + 1))?;
         offset += record.len() as u64;
     }
-    let View { stays, counts, .. } = view;
-    stays.values().try_for_each(|stay| stay.check(counts))
+    view.check_held()
 }
 
-/// Short runs, from 40 to 120 records.
+/// What was held alone, whatever was refused.
+#[cfg(test)]
+pub fn check_held(run: &Run, output: &str) -> Result<(), String> {
+    let mut counts = Counts::default();
+    let mut view = view(&mut counts);
+    for (record, line) in run.records.iter().zip(output.lines()) {
+        view.follow(record, read_line(line)?)?;
+    }
+    view.check_held()
+}
+
+/// Short runs: 40 to 120 calls, and what stands between them and before.
 pub fn run_at(seed: u64, place: u64) -> Run {
     generate::run(seed ^ 0x5eed, place, 40 + place % 81, &mut Reached::default())
 }
@@ -223,14 +289,16 @@ const NAMES: [&str; 3] = ["sporadic", "deferrable", "polling"];
 
 fn tell(counts: &Counts, runs: u64) -> Result<String, String> {
     for (name, kind) in NAMES.iter().zip(&counts.kinds) {
-        let OfKind { stays, windows, above, rounds, usable } = kind;
+        let OfKind { stays, windows, above, across, over, rounds, usable } = kind;
         println!(
-            "{name}: {stays} stays, {windows} windows, {above} with more than C, {rounds} rounds, \
-             {usable} usable ticks"
+            "{name}: {stays} stays, {windows} windows, {above} with more than C, {across} with ticks of two \
+             stays, {over} over a stay of other terms, {rounds} rounds, {usable} usable ticks"
         );
     }
     let Counts { choices, timers, stops, terms, ticks, folds, cuts, .. } = counts;
+    let Counts { remembered, back, in_time, full, .. } = counts;
     println!("{ticks} ticks held, {folds} stays with a fold, {cuts} cut slices");
+    println!("{back} came back, {in_time} of them at their very time, {remembered} too early, {full} to a full card");
     println!("{choices} lines at which nobody waits with ticks, {timers} timers later than their line");
     println!("{stops} bad records told by their offset, {terms} admits refused by their terms");
     let missing = missing(counts);
@@ -246,18 +314,25 @@ fn tell(counts: &Counts, runs: u64) -> Result<String, String> {
 }
 
 /// A count of nothing is a case not met. A sporadic one has no rounds and holds no more than
-/// C in a window; a polling one that runs late in a round may hold C again in the next.
+/// C in a window; a polling one that runs late in a round may hold C again in the next, but one
+/// that comes back at its boundary has no ticks before the next one: no window has both stays.
 fn missing(counts: &Counts) -> Vec<String> {
     let Counts { choices, timers, stops, terms, ticks, folds, cuts, .. } = *counts;
     let lines = [(choices, "choices"), (timers, "timers"), (stops, "bad records"), (terms, "bad terms")];
     let plain = [(ticks, "ticks"), (folds, "folds"), (cuts, "cuts")];
-    let all = lines.into_iter().chain(plain);
+    let Counts { remembered, back, in_time, full, .. } = *counts;
+    let returns =
+        [(back, "returns"), (in_time, "returns in time"), (remembered, "remembered"), (full, "full")];
+    let all = lines.into_iter().chain(plain).chain(returns);
     let mut asked: Vec<(u64, String)> = all.map(|(count, what)| (count, what.to_string())).collect();
     for (name, kind) in NAMES.iter().zip(&counts.kinds) {
-        let OfKind { stays, windows, above, rounds, usable } = *kind;
+        let OfKind { stays, windows, above, across, over, rounds, usable } = *kind;
         let mut of_kind = vec![(stays, "stays"), (windows, "windows"), (usable, "usable ticks")];
         if *name != "sporadic" {
             of_kind.extend([(above, "windows with more than C"), (rounds, "rounds")]);
+        }
+        if *name != "polling" {
+            of_kind.extend([(across, "windows of two stays"), (over, "windows over other terms")]);
         }
         asked.extend(of_kind.into_iter().map(|(count, what)| (count, format!("{name} {what}"))));
     }
@@ -284,9 +359,12 @@ mod tests {
     }
 
     fn all_met() -> Counts {
-        let kind = |_| OfKind { stays: 1, windows: 1, above: 1, rounds: 1, usable: 1 };
+        let kind = |_| OfKind { stays: 1, windows: 1, above: 1, across: 1, over: 1, rounds: 1, usable: 1 };
         let (choices, timers, stops, terms) = (1, 1, 1, 1);
-        Counts { kinds: NAMES.map(kind), choices, timers, stops, terms, ticks: 1, folds: 1, cuts: 1 }
+        let (ticks, folds, cuts) = (1, 1, 1);
+        let (remembered, back, in_time, full) = (1, 1, 1, 1);
+        let kinds = NAMES.map(kind);
+        Counts { kinds, choices, timers, stops, terms, remembered, back, in_time, full, ticks, folds, cuts }
     }
 
     #[test]
@@ -297,7 +375,7 @@ mod tests {
             counts.kinds[place] = OfKind::default();
             let lost = missing(&counts);
             assert!(lost.iter().all(|what| what.starts_with(name)), "{lost:?}");
-            assert_eq!(lost.len(), if *name == "sporadic" { 3 } else { 5 });
+            assert_eq!(lost.len(), if *name == "deferrable" { 7 } else { 5 });
             assert!(tell(&counts, 1).is_err());
         }
     }

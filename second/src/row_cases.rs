@@ -6,9 +6,9 @@ use crate::turns::{Call, Change, Core, Description};
 use crate::turns::{LARGEST_PERIOD, LARGEST_TIME, MOST_VCPUS};
 
 /// The rows of admit in their order; row 4 is out of a record's reach.
-pub const OF_ADMIT: [u32; 6] = [5, 11, 12, 10, 6, 8];
+pub const OF_ADMIT: [u32; 7] = [5, 11, 12, 10, 6, 9, 8];
 /// All rows that a record can meet.
-const IN_ORDER: [u32; 10] = [1, 2, 3, 5, 11, 12, 10, 6, 7, 8];
+const IN_ORDER: [u32; 11] = [1, 2, 3, 5, 11, 12, 10, 6, 9, 7, 8];
 
 const MOST: u32 = u32::MAX;
 
@@ -49,14 +49,15 @@ fn terms_case(period: u32, capacity: u32, row: u32) -> String {
     }
 }
 
-/// Every row that applies to the call, in the order of the table with 11, 12 and 10 behind 5.
+/// Every row that applies to the call, in the order of the table with 11, 12 and 10 behind 5 and 9
+/// behind 6.
 pub fn rows(core: &Core, call: &Call) -> Vec<u32> {
     let late = core.timer.is_some_and(|timer| call.time > timer);
     let times = [(1, call.time > LARGEST_TIME), (2, call.time < core.last), (3, late)];
     let mut all = times.to_vec();
     match call.change {
         Change::Tick => (),
-        Change::Admit(description) => all.extend(of_admit(core, &description)),
+        Change::Admit(description) => all.extend(of_admit(core, &description, call.time)),
         Change::Wake(identifier) | Change::Block(identifier) | Change::Remove(identifier) => {
             all.push((7, !core.vcpus.contains_key(&identifier)));
         }
@@ -64,10 +65,15 @@ pub fn rows(core: &Core, call: &Call) -> Vec<u32> {
     all.into_iter().filter(|&(_, applies)| applies).map(|(row, _)| row).collect()
 }
 
-fn of_admit(core: &Core, description: &Description) -> [(u32, bool); 6] {
+/// Those whose time has come are not among the remembered.
+fn of_admit(core: &Core, description: &Description, now: u64) -> [(u32, bool); 7] {
     let [period, none, above, kind] = of_terms(description);
+    let waiting: Vec<&u32> =
+        core.remembered.iter().filter(|(_, &until)| until > now).map(|(id, _)| id).collect();
     let on_card = core.vcpus.contains_key(&description.identifier);
-    [period, none, above, kind, (6, on_card), (8, core.vcpus.len() == MOST_VCPUS)]
+    let remembered = waiting.contains(&&description.identifier);
+    let full = core.vcpus.len() + waiting.len() >= MOST_VCPUS;
+    [period, none, above, kind, (6, on_card), (9, remembered), (8, full)]
 }
 
 /// The rows that an admit's record meets by itself, and whether it does.
@@ -106,8 +112,10 @@ pub fn note_terms(description: &Description, number: u32, reached: &mut Reached)
 }
 
 /// No time is above the largest and below the last, or below the last and above the timer; a
-/// capacity of 0 is above no period; and 7 is for other calls than admit.
-const APART: [(u32, u32); 9] = [(1, 2), (2, 3), (11, 12), (5, 7), (11, 7), (12, 7), (10, 7), (6, 7), (7, 8)];
+/// capacity of 0 is above no period; none is on the card and remembered; and 7 is for other calls
+/// than admit.
+const APART: [(u32, u32); 11] =
+    [(1, 2), (2, 3), (11, 12), (6, 9), (5, 7), (11, 7), (12, 7), (10, 7), (6, 7), (9, 7), (7, 8)];
 
 /// Two rows that one call can meet, the first of them given: the rows of the time before all
 /// others, and those of admit in their order.

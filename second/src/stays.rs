@@ -1,5 +1,6 @@
-//! One stay as it is seen from outside: the ticks it held, what it may hold by its kind, and
-//! the usable ticks that follow from the ticks held.
+//! One stay as it is seen from outside: the ticks it held, what it may hold by its kind, alone
+//! and together with other stays of its identifier, how long it is remembered, and the usable
+//! ticks that follow from the ticks held.
 
 use crate::turns::{Description, MOST_PENDING};
 
@@ -27,6 +28,12 @@ pub struct Counts {
     /// Bad records, and admits whose terms are refused.
     pub stops: u64,
     pub terms: u64,
+    /// Admits of a remembered identifier, admits of one that was on the card before, and those
+    /// of them at its very time; admits where too many are on the card or remembered.
+    pub remembered: u64,
+    pub back: u64,
+    pub in_time: u64,
+    pub full: u64,
     pub ticks: u64,
     pub folds: u64,
     pub cuts: u64,
@@ -39,6 +46,9 @@ pub struct OfKind {
     pub windows: u64,
     /// Windows with more than C, without which the bound of 2C would say nothing.
     pub above: u64,
+    /// Windows with ticks of two stays, and those over a stay of other terms between them.
+    pub across: u64,
+    pub over: u64,
     /// From an admission or a boundary to the next boundary.
     pub rounds: u64,
     /// Lines that told usable ticks.
@@ -53,6 +63,16 @@ enum Kind {
     Polling {
         served: bool,
     },
+}
+
+impl Kind {
+    fn byte(&self) -> usize {
+        match self {
+            Kind::Sporadic => 0,
+            Kind::Deferrable => 1,
+            Kind::Polling { .. } => 2,
+        }
+    }
 }
 
 pub struct Stay {
@@ -95,12 +115,23 @@ impl Stay {
 
     /// What is counted of its kind.
     pub fn of_kind<'a>(&self, counts: &'a mut Counts) -> &'a mut OfKind {
-        let place = match self.kind {
-            Kind::Sporadic => 0,
-            Kind::Deferrable => 1,
-            Kind::Polling { .. } => 2,
-        };
-        &mut counts.kinds[place]
+        &mut counts.kinds[self.kind.byte()]
+    }
+
+    /// Stays of one identifier with the same terms are bound together.
+    fn has_terms_of(&self, other: &Stay) -> bool {
+        let terms = |stay: &Stay| (stay.period, stay.capacity, stay.kind.byte());
+        terms(self) == terms(other)
+    }
+
+    /// Up to when it is remembered, removed at a moment: its next boundary, or where the period
+    /// of its latest slice ends, folded or not, if that is still to come.
+    pub fn remembered_until(&self, removed: u64) -> Option<u64> {
+        if !self.is_sporadic() {
+            return Some(self.start_of(self.round(removed) + 1));
+        }
+        let latest = self.slices.last()?.start + self.period;
+        (latest > removed).then_some(latest)
     }
 
     fn round(&self, moment: u64) -> u64 {
@@ -193,36 +224,45 @@ impl Stay {
         self.slices.iter().map(|slice| slice.within(from, to)).sum()
     }
 
-    pub fn check(&self, counts: &mut Counts) -> Result<(), String> {
-        let counts = self.of_kind(counts);
-        counts.stays += 1;
-        self.check_windows(counts)?;
-        if !self.is_sporadic() {
-            self.check_rounds(counts)?;
+    fn most(&self) -> u64 {
+        match self.kind {
+            Kind::Sporadic => self.capacity,
+            _ => 2 * self.capacity,
         }
-        Ok(())
     }
 
-    fn check_held(&self, from: u64, to: u64, most: u64) -> Result<u64, String> {
-        let held = self.held(from, to);
+    fn too_many(&self, held: u64, from: u64, to: u64, most: u64) -> Result<(), String> {
         if held > most {
             let who = self.identifier;
             return Err(format!("{who} holds {held} ticks from {from} to {to}, it may hold {most}"));
         }
-        Ok(held)
+        Ok(())
     }
 
-    /// The fullest window starts with a slice or ends with one.
-    fn check_windows(&self, counts: &mut OfKind) -> Result<(), String> {
-        let most = if self.is_sporadic() { self.capacity } else { 2 * self.capacity };
+    /// The windows that start with a slice of this stay or end with one, over all stays of its
+    /// identifier: the fullest window of all is such a one.
+    fn check_windows(&self, all: &[Stay], counts: &mut Counts) -> Result<(), String> {
         let starts = self.slices.iter().map(|slice| slice.start);
         let ends = self.slices.iter().map(|slice| slice.end.saturating_sub(self.period));
         for from in starts.chain(ends) {
-            counts.windows += 1;
-            let held = self.check_held(from, from + self.period, most)?;
-            counts.above += u64::from(held > self.capacity);
+            self.check_window(all, from, self.of_kind(counts))?;
         }
         Ok(())
+    }
+
+    fn check_window(&self, all: &[Stay], from: u64, counts: &mut OfKind) -> Result<(), String> {
+        let to = from + self.period;
+        let holds = |stay: &Stay| if self.has_terms_of(stay) { stay.held(from, to) } else { 0 };
+        let held: Vec<u64> = all.iter().map(holds).collect();
+        let (first, last) =
+            (held.iter().position(|&ticks| ticks > 0), held.iter().rposition(|&ticks| ticks > 0));
+        let (Some(first), Some(last)) = (first, last) else { return Ok(()) };
+        let ticks = held.iter().sum();
+        counts.windows += 1;
+        counts.above += u64::from(ticks > self.capacity);
+        counts.across += u64::from(first < last);
+        counts.over += u64::from(all[first..last].iter().any(|stay| !self.has_terms_of(stay)));
+        self.too_many(ticks, from, to, self.most())
     }
 
     /// Every round with a tick held in it. The ones within a slice are alike: one is enough.
@@ -233,11 +273,24 @@ impl Stay {
             rounds.dedup();
             for round in rounds {
                 counts.rounds += 1;
-                self.check_held(self.start_of(round), self.start_of(round + 1), self.capacity)?;
+                let (from, to) = (self.start_of(round), self.start_of(round + 1));
+                self.too_many(self.held(from, to), from, to, self.capacity)?;
             }
         }
         Ok(())
     }
+}
+
+/// All stays of one identifier, in their order.
+pub fn check_all(stays: &[Stay], counts: &mut Counts) -> Result<(), String> {
+    for stay in stays {
+        stay.of_kind(counts).stays += 1;
+        stay.check_windows(stays, counts)?;
+        if !stay.is_sporadic() {
+            stay.check_rounds(stay.of_kind(counts))?;
+        }
+    }
+    Ok(())
 }
 
 #[cfg(test)]
@@ -246,6 +299,10 @@ mod tests {
 
     fn stay(period: u32, capacity: u32, kind: u8) -> Stay {
         Stay::new(&Description { identifier: 1, period, capacity, priority: 0, kind }, 3).unwrap()
+    }
+
+    fn check(stay: &Stay, counts: &mut Counts) -> Result<(), String> {
+        check_all(std::slice::from_ref(stay), counts)
     }
 
     #[test]
@@ -268,11 +325,11 @@ mod tests {
         let mut counts = Counts::default();
         stay.hold(3, 5, &mut counts);
         stay.hold(10, 12, &mut counts);
-        assert!(stay.check(&mut counts).is_ok());
+        assert!(check(&stay, &mut counts).is_ok());
         stay.hold(13, 15, &mut counts);
-        assert!(stay.check(&mut counts).is_ok());
+        assert!(check(&stay, &mut counts).is_ok());
         stay.hold(19, 20, &mut counts);
-        assert!(stay.check(&mut counts).is_err());
+        assert!(check(&stay, &mut counts).is_err());
     }
 
     /// Boundaries at 13 and 23.
@@ -282,15 +339,51 @@ mod tests {
             let mut counts = Counts::default();
             let mut within = stay(10, 4, kind);
             within.hold(9, 17, &mut counts);
-            assert!(within.check(&mut counts).is_ok());
+            assert!(check(&within, &mut counts).is_ok());
             let OfKind { above, rounds, .. } = *within.of_kind(&mut counts);
             assert!(above > 0 && rounds > 0);
             within.hold(22, 23, &mut counts);
-            let fault = within.check(&mut counts).unwrap_err();
+            let fault = check(&within, &mut counts).unwrap_err();
             assert!(fault.contains("5 ticks from 13 to 23"), "{fault}");
             let mut wholly = stay(10, 9, kind);
             wholly.hold(5, 40, &mut counts);
-            assert!(wholly.check(&mut counts).is_err());
+            assert!(check(&wholly, &mut counts).is_err());
+        }
+    }
+
+    /// Four ticks from 4 on and four from 13 on: 13 to 17 is in one window with 7 and 8.
+    #[test]
+    fn stays_with_the_same_terms_are_bound_together() {
+        let mut counts = Counts::default();
+        let held = |period, capacity, kind, from| {
+            let mut stay = stay(period, capacity, kind);
+            stay.hold(from, from + 4, &mut Counts::default());
+            stay
+        };
+        let between = || stay(1, 1, 0);
+        let mut fault = |stays: [Stay; 3]| check_all(&stays, &mut counts).err();
+        let told = fault([held(10, 4, 0, 4), between(), held(10, 4, 0, 13)]).unwrap();
+        assert!(told.contains("5 ticks from 4 to 14, it may hold 4"), "{told}");
+        assert_eq!(fault([held(10, 4, 0, 4), between(), held(10, 4, 0, 14)]), None);
+        assert_eq!(fault([held(10, 4, 0, 4), between(), held(10, 5, 0, 13)]), None);
+        assert_eq!(fault([held(10, 4, 0, 4), between(), held(9, 4, 0, 13)]), None);
+        assert_eq!(fault([held(10, 4, 0, 4), between(), held(10, 4, 1, 13)]), None);
+        assert_eq!(fault([held(10, 4, 1, 9), between(), held(10, 4, 1, 13)]), None);
+        assert!(fault([held(10, 4, 1, 4), held(10, 4, 1, 13), held(10, 4, 1, 8)]).is_some());
+        assert!(counts.kinds[0].across > 0 && counts.kinds[0].over > 0 && counts.kinds[1].across > 0);
+    }
+
+    /// Admitted at 3.
+    #[test]
+    fn a_stay_is_remembered_by_its_latest_slice_or_its_next_boundary() {
+        let mut sporadic = stay(10, 4, 0);
+        assert_eq!(sporadic.remembered_until(5), None);
+        sporadic.hold(5, 6, &mut Counts::default());
+        sporadic.hold(8, 10, &mut Counts::default());
+        assert_eq!([10, 17, 18].map(|moment| sporadic.remembered_until(moment)), [Some(18), Some(18), None]);
+        for kind in [1, 2] {
+            let until = |moment| stay(10, 4, kind).remembered_until(moment);
+            assert_eq!([3, 12, 13, 14].map(until), [Some(13), Some(13), Some(23), Some(23)]);
         }
     }
 

@@ -1,7 +1,8 @@
-//! Turns: the section "What a call does" of the scope paper with requests 1 and 2, read plainly. A
+//! Turns: the section "What a call does" of the scope paper with requests 1 to 3, read plainly. A
 //! VCPU keeps what it used and since when it is runnable; what is pending or usable at a
 //! moment is counted from that, so that the step "Return", refills included, is the passing
-//! of time and needs no code.
+//! of time and needs no code. What is remembered of a removed one is a time, and whether that
+//! has come is counted in the same way.
 
 use crate::refusal::{refuse, refuse_with, Refusal};
 use std::collections::BTreeMap;
@@ -203,6 +204,16 @@ impl Vcpu {
         self.pending(moment).map(|entry| entry.due).min()
     }
 
+    pub fn latest_return(&self, moment: u64) -> Option<u64> {
+        self.pending(moment).map(|entry| entry.due).max()
+    }
+
+    /// Up to when it is remembered if it is removed at a moment: its next boundary, or its
+    /// latest pending return.
+    fn remembered_until(&self, moment: u64) -> Option<u64> {
+        self.next_boundary(moment).or_else(|| self.latest_return(moment))
+    }
+
     /// When ticks may come to it next: its earliest return, or its next boundary.
     fn comes_next(&self, moment: u64) -> Option<u64> {
         self.next_boundary(moment).or_else(|| self.earliest_return(moment))
@@ -271,20 +282,30 @@ pub struct Core {
     pub running: Option<u32>,
     pub timer: Option<u64>,
     pub vcpus: BTreeMap<u32, Vcpu>,
+    /// The identifiers that were removed, each with its time.
+    pub remembered: BTreeMap<u32, u64>,
     pub charged: Charged,
 }
 
 impl Core {
     /// The empty card.
     pub fn new() -> Core {
-        Core { last: 0, running: None, timer: None, vcpus: BTreeMap::new(), charged: Charged::Nobody }
+        Core {
+            last: 0,
+            running: None,
+            timer: None,
+            vcpus: BTreeMap::new(),
+            remembered: BTreeMap::new(),
+            charged: Charged::Nobody,
+        }
     }
 
     pub fn call(&mut self, call: &Call) -> Result<Reply, Refusal> {
         self.validate_time(call.time)?;
-        self.validate_change(&call.change)?;
+        self.validate_change(call)?;
         self.charge(call.time);
         self.last = call.time;
+        self.remembered.retain(|_, until| call.time < *until);
         self.change(&call.change);
         self.running = self.choose();
         self.timer = self.next_timer();
@@ -305,11 +326,11 @@ impl Core {
         }
     }
 
-    /// Rows 4 to 8, with 11, 12 and 10 behind 5.
-    fn validate_change(&self, change: &Change) -> Result<(), Refusal> {
-        match change {
+    /// Rows 4 to 8, with 11, 12 and 10 behind 5, and 9 behind 6.
+    fn validate_change(&self, call: &Call) -> Result<(), Refusal> {
+        match &call.change {
             Change::Tick => Ok(()),
-            Change::Admit(description) => self.validate_admit(description),
+            Change::Admit(description) => self.validate_admit(description, call.time),
             Change::Wake(identifier) | Change::Block(identifier) | Change::Remove(identifier) => {
                 if *identifier > LARGEST_IDENTIFIER {
                     return refuse(4);
@@ -322,7 +343,7 @@ impl Core {
         }
     }
 
-    fn validate_admit(&self, description: &Description) -> Result<(), Refusal> {
+    fn validate_admit(&self, description: &Description, now: u64) -> Result<(), Refusal> {
         let Description { identifier, period, capacity, .. } = *description;
         if identifier > LARGEST_IDENTIFIER {
             return refuse(4);
@@ -342,10 +363,23 @@ impl Core {
         if self.vcpus.contains_key(&identifier) {
             return refuse(6);
         }
-        if self.vcpus.len() == MOST_VCPUS {
+        if let Some(until) = self.remembered_until(identifier, now) {
+            return refuse_with(9, until);
+        }
+        if self.vcpus.len() + self.remembered_count(now) >= MOST_VCPUS {
             return refuse(8);
         }
         Ok(())
+    }
+
+    /// The time of an identifier that is remembered at a moment. Once its time has come it is
+    /// not, though no call may have come since.
+    pub fn remembered_until(&self, identifier: u32, moment: u64) -> Option<u64> {
+        self.remembered.get(&identifier).copied().filter(|&until| moment < until)
+    }
+
+    pub fn remembered_count(&self, moment: u64) -> usize {
+        self.remembered.values().filter(|&&until| moment < until).count()
     }
 
     fn charge(&mut self, now: u64) {
@@ -364,10 +398,15 @@ impl Core {
             }
             Change::Wake(identifier) => self.set_runnable(identifier, true),
             Change::Block(identifier) => self.set_runnable(identifier, false),
-            Change::Remove(identifier) => {
-                self.vcpus.remove(&identifier);
-            }
+            Change::Remove(identifier) => self.remove(identifier),
             Change::Tick => (),
+        }
+    }
+
+    fn remove(&mut self, identifier: u32) {
+        let Some(vcpu) = self.vcpus.remove(&identifier) else { return };
+        if let Some(until) = vcpu.remembered_until(self.last) {
+            self.remembered.insert(identifier, until);
         }
     }
 
@@ -586,11 +625,145 @@ mod tests {
 
     #[test]
     fn a_new_stay_has_no_earlier_use() {
-        let mut core =
-            core(&[admit(0, 1, 10, 3, 0), wake(0, 1), tick(2), remove(3, 1), admit(3, 1, 10, 3, 0)]);
-        assert_eq!(ran(&mut core, wake(3, 1)), (Some(1), 3, Some(6)));
-        core.call(&tick(5)).unwrap();
+        let again = [admit(0, 1, 5, 5, 0), wake(0, 1), remove(5, 1), admit(5, 1, 5, 5, 0)];
+        let mut core = core(&again);
+        assert_eq!(ran(&mut core, wake(5, 1)), (Some(1), 5, Some(10)));
+        core.call(&tick(7)).unwrap();
         assert_eq!(core.charged, Charged::Entry);
+    }
+
+    /// Slices at 0 and 3, so that the returns are due at 10 and 13.
+    #[test]
+    fn a_removed_one_is_remembered_until_its_latest_return() {
+        let mut core =
+            core(&[admit(0, 1, 10, 4, 0), wake(0, 1), block(1, 1), wake(3, 1), remove(5, 1), tick(6)]);
+        for time in [6, 10, 12] {
+            assert_eq!(number(&core, admit(time, 1, 10, 4, 0)), (9, 13));
+            for call in [wake(time, 1), block(time, 1), remove(time, 1)] {
+                assert_eq!(number(&core, call), (7, 0));
+            }
+        }
+        for clears in [None, Some(tick(13)), Some(tick(14))] {
+            let mut core = core.clone();
+            if let Some(call) = clears {
+                core.call(&call).unwrap();
+            }
+            let time = core.last.max(13);
+            assert_eq!(ran(&mut core, admit(time, 1, 7, 2, 0)), (None, 0, None));
+            assert_eq!(ran(&mut core, wake(time, 1)), (Some(1), 2, Some(time + 2)));
+        }
+        core.call(&tick(10)).unwrap();
+        assert_eq!(number(&core, admit(12, 1, 10, 4, 0)), (9, 13));
+    }
+
+    /// The charge and the return of the removal itself count.
+    #[test]
+    fn what_is_remembered_is_the_queue_as_the_removal_leaves_it() {
+        let charged = core(&[admit(0, 1, 10, 4, 0), wake(0, 1), remove(2, 1)]);
+        assert_eq!(charged.remembered, [(1, 10)].into());
+        let start = [admit(0, 1, 10, 4, 0), wake(0, 1), block(2, 1)];
+        let returned = core(&[&start[..], &[remove(10, 1)]].concat());
+        assert_eq!(returned.remembered, BTreeMap::new());
+        let one_before = core(&[&start[..], &[remove(9, 1)]].concat());
+        assert_eq!(one_before.remembered, [(1, 10)].into());
+        let mut unused = core(&[admit(0, 1, 10, 4, 0), remove(0, 1)]);
+        assert_eq!(ran(&mut unused, admit(0, 1, 10, 4, 0)), (None, 0, None));
+    }
+
+    #[test]
+    fn a_folded_return_is_remembered_by_its_own_time() {
+        let mut core = core(&[admit(0, 7, 1000, 100, 1)]);
+        for slice in 0..9 {
+            core.call(&wake(2 * slice, 7)).unwrap();
+            core.call(&block(2 * slice + 1, 7)).unwrap();
+        }
+        core.call(&remove(17, 7)).unwrap();
+        assert_eq!(number(&core, admit(1015, 7, 1000, 100, 1)), (9, 1016));
+        core.call(&admit(1016, 7, 1000, 100, 1)).unwrap();
+    }
+
+    /// Admitted at 2: boundaries at 12, 22, 32.
+    #[test]
+    fn the_other_kinds_are_remembered_until_their_next_boundary() {
+        for kind in [1, 2] {
+            for (removed, until) in [(2, 12), (3, 12), (11, 12), (12, 22), (13, 22), (31, 32), (32, 42)] {
+                let core = with(kind, &[remove(removed, 1)]);
+                let again = |time| of_kind(0, admit_terms(1, 10, 4, 5), time);
+                assert_eq!(number(&core, again(removed)), (9, until));
+                assert_eq!(number(&core, again(until - 1)), (9, until));
+                assert!(core.clone().call(&again(until)).is_ok());
+            }
+        }
+    }
+
+    /// Before request 3 the card would have had room for it.
+    #[test]
+    fn those_remembered_take_places_until_their_time() {
+        let mut core = Core::new();
+        for identifier in 0..32 {
+            core.call(&of_kind(1, admit_terms(identifier, 10 + identifier % 2, 1, 0), 0)).unwrap();
+        }
+        for identifier in 0..32 {
+            core.call(&remove(0, identifier)).unwrap();
+            assert_eq!(number(&core, admit(0, 32, 10, 1, 0)), (8, 0));
+            assert_eq!(number(&core, admit(9, identifier, 10, 1, 0)), (9, 10 + u64::from(identifier % 2)));
+        }
+        assert_eq!(number(&core, admit(9, 32, 10, 1, 0)), (8, 0));
+        core.call(&admit(10, 32, 10, 1, 0)).unwrap();
+        assert_eq!((core.vcpus.len(), core.remembered.len()), (1, 16));
+        assert_eq!(number(&core, admit(10, 31, 10, 1, 0)), (9, 11));
+    }
+
+    #[test]
+    fn a_refused_call_clears_nothing() {
+        let mut core = core(&[admit(0, 1, 10, 4, 0), wake(0, 1), remove(4, 1)]);
+        for refused in [wake(20, 1), admit(20, 2, 0, 1, 0), tick(LARGEST_TIME + 1), tick(3)] {
+            core.call(&refused).unwrap_err();
+            assert_eq!(number(&core, admit(9, 1, 10, 4, 0)), (9, 10));
+        }
+    }
+
+    #[test]
+    fn remembered_identifiers_are_compared_by_24_bits() {
+        for (left, new) in [(65793, 257), (257, 65793)] {
+            let mut core = core(&[admit(0, left, 10, 4, 0), wake(0, left), remove(4, left)]);
+            core.call(&admit(4, new, 10, 4, 0)).unwrap();
+            assert_eq!(number(&core, admit(4, left, 10, 4, 0)), (9, 10));
+            assert_eq!(number(&core, wake(4, left)), (7, 0));
+            assert_eq!(ran(&mut core, wake(4, new)), (Some(new), 4, Some(8)));
+        }
+    }
+
+    #[test]
+    fn the_time_remembered_may_lie_above_the_largest_time() {
+        let last = LARGEST_TIME - 2;
+        for (kind, until) in [(0, LARGEST_TIME + 8), (1, LARGEST_TIME + 8)] {
+            let start = [tick(last), of_kind(kind, admit_terms(1, 10, 4, 0), last), wake(last, 1)];
+            let core = core(&[&start[..], &[remove(LARGEST_TIME, 1)]].concat());
+            assert_eq!(number(&core, admit(LARGEST_TIME, 1, 10, 4, 0)), (9, until));
+            assert_eq!(number(&core, admit(until, 1, 10, 4, 0)), (1, 0));
+        }
+    }
+
+    /// 9 stands behind 6, which excludes it, and before 8.
+    #[test]
+    fn a_remembered_identifier_has_its_place_among_the_rows() {
+        let mut core = Core::new();
+        for identifier in 0..32 {
+            core.call(&admit(0, identifier, 10, 4, 0)).unwrap();
+        }
+        core.call(&wake(0, 5)).unwrap();
+        core.call(&remove(2, 5)).unwrap();
+        assert_eq!(number(&core, admit(2, 5, 10, 4, 0)), (9, 10));
+        assert_eq!(number(&core, admit(2, 32, 10, 4, 0)), (8, 0));
+        assert_eq!(number(&core, admit(2, 6, 10, 4, 0)), (6, 0));
+        assert_eq!(number(&core, admit(1, 5, 10, 4, 0)), (2, 0));
+        assert_eq!(number(&core, admit(2, 5, 0, 4, 0)), (5, 0));
+        assert_eq!(number(&core, admit(2, 5, 10, 0, 0)), (11, 0));
+        assert_eq!(number(&core, admit(2, 5, 10, 11, 0)), (12, 0));
+        assert_eq!(number(&core, of_kind(3, admit_terms(5, 10, 4, 0), 2)), (10, 0));
+        core.call(&wake(2, 6)).unwrap();
+        assert_eq!(number(&core, admit(7, 5, 10, 4, 0)), (3, 6));
     }
 
     #[test]

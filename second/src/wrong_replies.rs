@@ -28,7 +28,9 @@ fn with_other_row(run: &Run, other: &impl Fn(u32, &[u32]) -> u32) -> String {
         let Ok((call, _)) = records::read(record) else { return right.clone() };
         let rows = row_cases::rows(&core, &call);
         match core.call(&call) {
-            Err(refusal) if refusal.number != 3 => line(&refuse(other(refusal.number, &rows))),
+            Err(refusal) if other(refusal.number, &rows) != refusal.number => {
+                line(&refuse(other(refusal.number, &rows)))
+            }
             answer => line(&answer),
         }
     };
@@ -47,12 +49,11 @@ fn the_right_rows_are_no_difference() {
 }
 
 /// Two rows the other way round: 11 before 5, 10 before 12, 6 before 11 and all the others.
-/// What row 3 refuses has a detail, so it is left to itself.
 #[test]
 fn every_other_order_is_seen() {
     let (runs, pairs) = (runs(), row_cases::pairs());
-    assert!([(5, 11), (5, 12), (12, 10), (11, 8)].iter().all(|pair| pairs.contains(pair)));
-    for (first, behind) in pairs.into_iter().filter(|&(first, _)| first != 3) {
+    assert!([(5, 11), (5, 12), (12, 10), (11, 8), (9, 8)].iter().all(|pair| pairs.contains(pair)));
+    for (first, behind) in pairs {
         let swapped = |number, rows: &[u32]| {
             let both = number == first && rows.contains(&behind);
             if both {

@@ -39,9 +39,13 @@ changeOf (Block now t) = AskBlock t
 changeOf (Remove now t) = AskRemove t
 changeOf (Tick now) = AskTick
 
+-- stands where the input was not refused
+abbrev pub noRefusal : Refusal
+noRefusal = record { number = 0; detail = 0 }
+
 -- between private functions: the refusal that reading gave
 abbrev pub refusalOf : Read → Refusal
-refusalOf (Got e) = record { number = 0; detail = 0 }
+refusalOf (Got e) = noRefusal
 refusalOf (No r) = r
 
 -- what serving gives: the core, the bytes of the records answered, the lines, and whether the input was refused, and how
@@ -51,10 +55,6 @@ pub record Run : Type 0 where
   pub lines : List ℕ
   pub stopped : Bool
   pub refusal : Refusal
-
--- stands where the input was not refused
-abbrev pub noRefusal : Refusal
-noRefusal = record { number = 0; detail = 0 }
 
 -- nothing more is answered for now: the next record waits for its rest, or its line for room, or there is none
 abbrev pub rests : Core → Run

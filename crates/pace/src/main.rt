@@ -1,7 +1,7 @@
 // Times the calls: it makes them from a deterministic generator, and writes sums over the replies and how many were refused. Each kind of
 // number has a sum of its own: moments, identifiers, amounts, and the numbers and the details of refusals.
-// Standard input: four digits for how many VCPUs, one for the mix (0 mixed, 1 busy, 2 mixed with a third of the VCPUs of each kind), ten
-// for how many calls.
+// Standard input: four digits for how many VCPUs, one for the mix (0 mixed, 1 busy, 2 mixed with a third of the VCPUs of each kind, 3 leaving
+// and coming back, of all kinds too), ten for how many calls.
 use libc::STDIN_FILENO;
 use libc::STDOUT_FILENO;
 use turns::Answer;
@@ -49,9 +49,9 @@ fn id_of(k: u64) -> Tunnel {
     Tunnel::new(((k % 1000000 + 1) * 791900 % NOBODY) as u32)
 }
 
-// All are sporadic, but for the mix of the three kinds.
+// All are sporadic, but for the mixes of the three kinds.
 fn kind_in(mix: u64, d: u64) -> u8 {
-    if mix == 2 { (d / 7 % 3) as u8 } else { 0 }
+    if 2 <= mix { (d / 7 % 3) as u8 } else { 0 }
 }
 
 fn described(k: u64, d: u64, kind: u8, capacity: Amount) -> Description {
@@ -74,10 +74,18 @@ fn bad_terms(k: u64, d: u64, kind: u8) -> Description {
     described(k, d, kind, Amount::new(0))
 }
 
-// Some ticks after the last accepted call, but not past the timer.
-fn next(last: Moment, d: u64, timer: Moment) -> Moment {
-    let now = last.plus(Amount::new((d / 32 % 16) as u32));
+// So much after the last accepted call, but not past the timer.
+fn next(last: Moment, step: Amount, timer: Moment) -> Moment {
+    let now = last.plus(step);
     if timer.before(now) { timer } else { now }
+}
+
+fn short(d: u64) -> Amount {
+    Amount::new((d / 32 % 16) as u32)
+}
+
+fn long(d: u64) -> Amount {
+    Amount::new((d / 32 % 16 * 8) as u32)
 }
 
 fn earlier(t: Moment) -> Moment {
@@ -93,7 +101,7 @@ fn busy(n: u64, d: u64, last: Moment, timer: Moment) -> Event
     requires { ⌜ (1 ≤ n) × (n ≤ 9999) ⌝ }
 {
     let sel = d % 32;
-    let now = next(last, d, timer);
+    let now = next(last, short(d), timer);
     let who = id_of(d / 512 % n);
     if sel < 20 {
         return Event {
@@ -172,11 +180,12 @@ fn wrong(sel: u64, n: u64, d: u64, kind: u8, last: Moment, now: Moment) -> Event
     Event { now, change }
 }
 
-// A tick, a wake, a block, or a call that is refused.
-fn any(n: u64, d: u64, kind: u8, last: Moment, now: Moment) -> Event
+// Nobody leaves: a tick, a wake, a block, or a call that is refused.
+fn mixed(n: u64, d: u64, kind: u8, last: Moment, timer: Moment) -> Event
     requires { ⌜ (1 ≤ n) × (n ≤ 9999) ⌝ }
 {
     let sel = d % 36;
+    let now = next(last, short(d), timer);
     let id = id_of(d / 512 % n);
     if sel < 10 {
         return Event {
@@ -199,27 +208,45 @@ fn any(n: u64, d: u64, kind: u8, last: Moment, now: Moment) -> Event
     wrong(sel, n, d, kind, last, now)
 }
 
-// Once in 32 calls a VCPU is removed, and admitted anew by the next call.
-fn mixed(k: u64, n: u64, d: u64, kind: u8, last: Moment, timer: Moment) -> Event
+// A tick, a wake or a block.
+fn quiet(sel: u64, id: Tunnel) -> Change {
+    if sel < 12 {
+        return Change::Tick;
+    }
+    if sel < 24 {
+        return Change::Wake(id);
+    }
+    Change::Block(id)
+}
+
+// A quarter more tenants than VCPUs were asked for, in a round: once in 8 calls one leaves, and the next call admits the one that left
+// longest ago. The others are of those that are on the card where all of that was accepted. The steps are longer than in the other runs,
+// so that times come.
+fn leaving(k: u64, n: u64, d: u64, kind: u8, last: Moment, timer: Moment) -> Event
     requires { ⌜ (1 ≤ n) × (n ≤ 9999) ⌝ }
 {
-    let now = next(last, d, timer);
-    let place = k / 32 % n;
-    if k % 32 == 0 {
-        let id = id_of(place);
+    let now = next(last, long(d), timer);
+    let tenants = n + n / 4 + 1;
+    let turn = k / 8;
+    if k % 8 == 0 {
+        let gone = id_of(turn % tenants);
         return Event {
             now,
-            change: Change::Remove(id),
+            change: Change::Remove(gone),
         };
     }
-    if k % 32 == 1 {
-        let new = terms(place, d, kind);
+    if k % 8 == 1 {
+        let back = terms((turn + n) % tenants, d, kind);
         return Event {
             now,
-            change: Change::Admit(new),
+            change: Change::Admit(back),
         };
     }
-    any(n, d, kind, last, now)
+    // Less than 10,000 already: said for the sum.
+    let place = d / 512 % n % 10000;
+    let who = id_of((turn + 1 + place) % tenants);
+    let change = quiet(d % 32, who);
+    Event { now, change }
 }
 
 fn call(k: u64, n: u64, mix: u64, s: u64, last: Moment, timer: Moment) -> Event
@@ -242,7 +269,10 @@ fn call(k: u64, n: u64, mix: u64, s: u64, last: Moment, timer: Moment) -> Event
         };
     }
     if mix == 0 || mix == 2 {
-        return mixed(k, n, d, kind, last, timer);
+        return mixed(n, d, kind, last, timer);
+    }
+    if mix == 3 {
+        return leaving(k, n, d, kind, last, timer);
     }
     busy(n, d, last, timer)
 }

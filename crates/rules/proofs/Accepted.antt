@@ -12,11 +12,13 @@ use borrow.Author.Tests.{leb-true, leb-false, not-false}
 use Rattle.rules.specs.Limits.{largestTime, largestPeriod, largestKind, mostVcpus, inRange}
 use Rattle.rules.specs.Lists.{count, All, Among}
 use Rattle.rules.specs.Vcpu.{Description, Vcpu, named}
+use Rattle.rules.specs.Remember.{Remembered, kept, timeOf}
 use Rattle.rules.specs.Card.{Card, onCard}
 use Rattle.rules.specs.Change.{Change}
 use Rattle.rules.specs.Choose.{choose, runs}
 use Rattle.rules.specs.Timer.{timer}
-use Rattle.rules.specs.Refuse.{Refusal, row, aboveLargest, belowLast, isLate, rowLate, above24Bits, admitRows, callRows, refusal}
+use Rattle.rules.specs.Refuse.{Refusal, row, aboveLargest, belowLast, isLate, rowLate, above24Bits, rowRemembered}
+use Rattle.rules.specs.Refuse.{admitRows, callRows, refusal}
 use Rattle.rules.specs.History.{holds}
 use Rattle.rules.proofs.Tests.{tests, clash, no-some, and-true}
 use Rattle.rules.proofs.Named.{named-itself}
@@ -29,18 +31,22 @@ pub row-passed : (t : Bool) (number detail : ℕ) (below : Option Refusal) → r
 row-passed true number detail below e = no-some (sym e)
 row-passed false number detail below e = (refl, e)
 
+remembered-passed : (o : Option ℕ) (below : Option Refusal) → rowRemembered o below ≡ none → (o ≡ none) × (below ≡ none)
+remembered-passed none below e = (refl, e)
+remembered-passed (some time) below e = no-some (sym e)
+
 pub record Passed (c : Card) (now : ℕ) (asked : Change) : Type 0 where
   pub not-above : now ≤ largestTime
   pub not-before : c .last ≤ now
   pub not-late : (t : ℕ) → c .timer ≡ some t → now ≤ t
-  pub asked-for : callRows (c .vcpus) asked ≡ none
+  pub asked-for : callRows (c .vcpus) (kept now (c .remembered)) asked ≡ none
 
 pub passed : (c : Card) (now : ℕ) (asked : Change) → refusal c now asked ≡ none → Passed c now asked
 unfolding refusal
 passed c now asked e =
     let a = row-passed (aboveLargest now) 1 0 _ e in
     let b = row-passed (belowLast (c .last) now) 2 0 _ (a .1) in
-    let l = late (c .timer) (callRows (c .vcpus) asked) (b .1) in
+    let l = late (c .timer) (callRows (c .vcpus) (kept now (c .remembered)) asked) (b .1) in
     record {
       not-above = omega (arith, tests, a .0);
       not-before = omega (arith, tests, b .0);
@@ -60,20 +66,22 @@ range-says period e =
     let h = and-true (leb 1 period) (leb period largestPeriod) e in
     (leb-true 1 period (h .0), leb-true period largestPeriod (h .1))
 
-pub record Admits (vs : List Vcpu) (d : Description) : Type 0 where
+pub record Admits (vs : List Vcpu) (rs : List Remembered) (d : Description) : Type 0 where
   pub range : InRange d
   pub not-there : onCard (d .tunnel) vs ≡ false
-  pub room : length vs < mostVcpus
+  pub not-remembered : timeOf (d .tunnel) rs ≡ none
+  pub room : length vs + length rs < mostVcpus
 
-pub admits : (vs : List Vcpu) (d : Description) → admitRows vs d ≡ none → Admits vs d
-admits vs d e =
+pub admits : (vs : List Vcpu) (rs : List Remembered) (d : Description) → admitRows vs rs d ≡ none → Admits vs rs d
+admits vs rs d e =
     let a = row-passed (above24Bits (d .tunnel)) 4 0 _ e in
     let b = row-passed (not (inRange (d .period))) 5 0 _ (a .1) in
     let l = row-passed (eqb (d .capacity) 0) 11 0 _ (b .1) in
     let h = row-passed (ltb (d .period) (d .capacity)) 12 0 _ (l .1) in
     let k = row-passed (ltb largestKind (d .kind)) 10 0 _ (h .1) in
     let f = row-passed (onCard (d .tunnel) vs) 6 0 _ (k .1) in
-    let g = row-passed (leb mostVcpus (length vs)) 8 0 _ (f .1) in
+    let m = remembered-passed (timeOf (d .tunnel) rs) _ (f .1) in
+    let g = row-passed (leb mostVcpus (length vs + length rs)) 8 0 _ (m .1) in
     let r = range-says (d .period) (not-false (inRange (d .period)) (b .0)) in
     record {
       range = record {
@@ -85,7 +93,8 @@ admits vs d e =
         kind-high = omega (arith, tests, k .0);
       };
       not-there = f .0;
-      room = leb-false mostVcpus (length vs) (g .0);
+      not-remembered = m .0;
+      room = leb-false mostVcpus (length vs + length rs) (g .0);
     }
 
 -- the card runs the one chosen, and has its timer

@@ -17,6 +17,7 @@ use Rattle.rules.specs.Card.{Card, onCard}
 use Rattle.rules.specs.Charge.{waiting, charge, noTicks, chargedSome, charged, folds}
 use Rattle.rules.specs.Return.{bring, returned}
 use Rattle.rules.specs.Change.{Change, admit, wake, block, remove, tick}
+use Rattle.rules.specs.Remember.{Remembered}
 use Rattle.rules.specs.Refuse.{callRows}
 use Rattle.rules.specs.Turn.{afterReturn}
 use Rattle.rules.specs.Meaning.{OnTheCard}
@@ -28,7 +29,7 @@ use Rattle.rules.proofs.Tests.{tests, cases, and-true, and-right, and-o
 use Rattle.rules.proofs.Named.{named-says, is-named}
 use Rattle.rules.proofs.ThreeKinds.{terms-returned, runnable-returned, returned-none}
 use Rattle.rules.proofs.Lists.{all-imp, all-both, all-every, all-map-both, all-map-among, all-among, among-all, any-same, any-only}
-use Rattle.rules.proofs.Lists.{some-one, count-same, count-among, count-none, length-ticks}
+use Rattle.rules.proofs.Lists.{among-map, map-among, some-one, count-same, count-among, count-none, length-ticks}
 use Rattle.rules.proofs.Slices.{slices-idle}
 use Rattle.rules.proofs.Sound.{Orderly, Sound, orderly-later, kept-charged, sound-returned}
 use Rattle.rules.proofs.Tied.{Tied, tied-return, tied-idle, tied-charged, within-charged, folds-there}
@@ -50,6 +51,17 @@ each-stepped c now = go (c .running) (c .vcpus)
     go none vs = refl
     go (some t) [] = refl
     go (some t) (v ∷ vs) = ap (λ (l : List Vcpu). stepped (c .last) now (some t) v ∷ l) (go (some t) vs)
+
+-- after these steps everybody is there, and nobody else
+pub is-there : (c : Card) (now : ℕ) (v : Vcpu) → Among v (c .vcpus) → Among (stepped (c .last) now (c .running) v) (afterReturn c now)
+is-there c now v m =
+    let step = stepped (c .last) now (c .running) in
+    subst (λ (l : List Vcpu). Among (step v) l) (sym (each-stepped c now)) (map-among step (c .vcpus) v m)
+
+pub was-there : (c : Card) (now : ℕ) (w : Vcpu) → Among w (afterReturn c now)
+    → (v : Vcpu) × Among v (c .vcpus) × (w ≡ stepped (c .last) now (c .running) v)
+was-there c now w m =
+    among-map (stepped (c .last) now (c .running)) (c .vcpus) w (subst (λ (l : List Vcpu). Among w l) (each-stepped c now) m)
 
 pub terms-charged : (last now : ℕ) (v : Vcpu) → charged last now v .terms ≡ v .terms
 unfolding charged
@@ -76,8 +88,9 @@ runnable-stepped last now o v = runnable-returned now (chargedIf last now o v) �
     go false n = refl
 
 -- the call's own rows may be judged before these steps or after them
-pub rows-stepped : (c : Card) (now : ℕ) (asked : Change) → callRows (afterReturn c now) asked ≡ callRows (c .vcpus) asked
-rows-stepped c now asked = rw (each-stepped c now) (go asked)
+pub rows-stepped : (c : Card) (now : ℕ) (rs : List Remembered) (asked : Change)
+    → callRows (afterReturn c now) rs asked ≡ callRows (c .vcpus) rs asked
+rows-stepped c now rs asked = rw (each-stepped c now) (go asked)
   where
     step : Vcpu → Vcpu
     step = stepped (c .last) now (c .running)
@@ -85,7 +98,7 @@ rows-stepped c now asked = rw (each-stepped c now) (go asked)
     there : (t : ℕ) → onCard t (map step (c .vcpus)) ≡ onCard t (c .vcpus)
     there t = any-same (named t) (named t) step (c .vcpus) (λ v. ap (λ x. eqb (x .tunnel) t) (terms-stepped (c .last) now (c .running) v))
 
-    go : (asked : Change) → callRows (map step (c .vcpus)) asked ≡ callRows (c .vcpus) asked
+    go : (asked : Change) → callRows (map step (c .vcpus)) rs asked ≡ callRows (c .vcpus) rs asked
     go (admit d) = rw (there (d .tunnel), length-map (c .vcpus) step)
     go (wake t) = rw (there t)
     go (block t) = rw (there t)

@@ -1,10 +1,10 @@
 -- Laws of the boundaries of a stay, and of the ticks held between two moments: at most C from one boundary to the next is at most 2C in
 -- any window of T. Over plain ticks and stays, with no card in sight. Assumes nothing.
-use mathlib.Core.Path.{_≡_, refl, ap, _∙_, subst}
+use mathlib.Core.Path.{_≡_, refl, ap, sym, _∙_, subst}
 use mathlib.Core.Bool.{Bool, true, false, cond, _&&_}
 use mathlib.Core.List.{List, [], _∷_}
 use mathlib.Core.Logic.{⊎-elim}
-use mathlib.Core.Option.{Option}
+use mathlib.Core.Option.{Option, some}
 use Prim.Native.Nat.{ℕ, zero, suc, _+_, _-_, _*_, _/_, _≤_, _<_}
 use native.Mathlib.Omega.{arith}
 use native.Mathlib.Nat.{div-add-mod', mod-lt, add-mul, mul-le-mul-right, div-eq-of-lt-le}
@@ -15,9 +15,10 @@ use Rattle.rules.specs.Return.{boundaryAfter}
 use Rattle.rules.specs.History.{ticks}
 use Rattle.rules.specs.Stays.{Stay, owns, held, heldTicks}
 use Rattle.rules.specs.Boundaries.{heldBetween, boundary, latest}
-use Rattle.rules.proofs.Tests.{tests, cases, and-right}
+use Rattle.rules.proofs.Tests.{tests, clash, cases, and-right}
 use Rattle.rules.proofs.Lists.{length-ticks}
-use Rattle.rules.proofs.Held.{length-held, owns-none}
+use Rattle.rules.proofs.Held.{length-held, owns-none, owns-over}
+use Rattle.rules.proofs.Window.{Within}
 
 -- one held tick, that begins at n
 abbrev counts : ℕ → ℕ → ℕ → ℕ
@@ -91,6 +92,45 @@ between-split low middle high (true ∷ m) = omega (arith, one (length m), betwe
         go true false true true e f = omega arith
         go true false false true e f = absurd (omega (arith, tests))
 
+pub between-both : (low middle high : ℕ) (m : List Bool) → low ≤ middle → middle ≤ high
+    → heldBetween low middle m + heldBetween middle high m ≤ heldBetween low high m
+between-both low middle high [] h k = omega arith
+between-both low middle high (false ∷ m) h k = omega (arith, between-both low middle high m h k)
+between-both low middle high (true ∷ m) h k = omega (arith, one (length m), between-both low middle high m h k)
+  where
+    one : (n : ℕ) → counts low middle n + counts middle high n ≤ counts low high n
+    one n = ⊎-elim late early (cases (leb middle n))
+      where
+        late : leb middle n ≡ true → counts low middle n + counts middle high n ≤ counts low high n
+        late e =
+            let l : leb low n ≡ true = le-leb low n (omega (arith, tests)) in
+            rw (over low middle n (omega (arith, tests)), e, l) (omega arith)
+
+        early : leb middle n ≡ false → counts low middle n + counts middle high n ≤ counts low high n
+        early e =
+            let l : ltb n middle ≡ true = lt-ltb n middle (omega (arith, tests)) in
+            let u : ltb n high ≡ true = lt-ltb n high (omega (arith, tests)) in
+            rw (under middle high n (omega (arith, tests)), l, u) (omega arith)
+
+-- between moments further apart there is no less
+pub between-wide : (low high low′ high′ : ℕ) (m : List Bool) → low′ ≤ low → low ≤ high → high ≤ high′
+    → heldBetween low high m ≤ heldBetween low′ high′ m
+between-wide low high low′ high′ m h k l =
+    omega (arith, between-both low′ low high m h k, between-both low′ high high′ m (omega arith) l)
+
+pub between-most : (low high : ℕ) (m : List Bool) → heldBetween low high m ≤ high - low
+between-most low high [] = omega arith
+between-most low high (false ∷ m) = omega (arith, between-most low high m)
+between-most low high (true ∷ m) = go (leb low (length m)) (ltb (length m) high) refl refl (between-most low high m)
+    (between-most low (length m) m)
+  where
+    go : (a b : Bool) → leb low (length m) ≡ a → ltb (length m) high ≡ b → heldBetween low high m ≤ high - low
+        → heldBetween low (length m) m ≤ length m - low → cond (a && b) 1 0 + heldBetween low high m ≤ high - low
+    go true true e f ih ih′ =
+        omega (arith, tests, between-end low high (length m) m (omega (arith, tests)) (omega arith))
+    go true false e f ih ih′ = omega arith
+    go false b e f ih ih′ = omega arith
+
 -- a window lies between the moments that it covers
 pub window-between : (T k low high : ℕ) (m : List Bool)
     → ((n : ℕ) → n + k < length m → length m ≤ n + k + T → (low ≤ n) × (n < high)) → heldTicks (take T (drop k m)) ≤ heldBetween low high m
@@ -109,22 +149,81 @@ window-between (suc T) zero low high (true ∷ m) f =
       window-between T 0 low high m (λ n h l. f n (omega arith) (omega arith)),
     )
 
--- before its admission a stay holds nothing
-pub between-admission : (s : Stay) (h : List (Option ℕ)) → heldBetween 0 (s .from) (held s h) ≡ 0
-between-admission s [] = refl
-between-admission s (o ∷ h) = ⊎-elim (before (between-admission s h)) (behind (between-admission s h)) (cases (ltb (length h) (s .from)))
+outside : (b : Bool) (low high n : ℕ) → (low ≤ n → n < high → b ≡ false)
+    → cond (b && leb low n && ltb n high) 1 0 ≤ 0
+outside b low high n f = go b (leb low n) (ltb n high) refl refl f
   where
-    before : heldBetween 0 (s .from) (held s h) ≡ 0 → ltb (length h) (s .from) ≡ true → heldBetween 0 (s .from) (held s (o ∷ h)) ≡ 0
-    before z e = rw (owns-none s o (length h) (omega (arith, tests))) (omega arith)
+    go : (b x y : Bool) → leb low n ≡ x → ltb n high ≡ y → (low ≤ n → n < high → b ≡ false) → cond (b && x && y) 1 0 ≤ 0
+    go false x y e g f = omega arith
+    go true false y e g f = omega arith
+    go true true false e g f = omega arith
+    go true true true e g f = clash (f (omega (arith, tests)) (omega (arith, tests)))
 
-    behind : heldBetween 0 (s .from) (held s h) ≡ 0 → ltb (length h) (s .from) ≡ false → heldBetween 0 (s .from) (held s (o ∷ h)) ≡ 0
-    behind z e = rw (length-held s h, e, and-right (owns s o (length h) && leb 0 (length h))) (omega arith)
+at-most-one : (b x y : Bool) → cond (b && x && y) 1 0 ≤ cond b 1 0
+at-most-one false x y = omega arith
+at-most-one true false y = omega arith
+at-most-one true true false = omega arith
+at-most-one true true true = omega arith
+
+-- .. and covers those between the moments
+between-window : (T k low high : ℕ) (m : List Bool)
+    → ((n : ℕ) → low ≤ n → n < high → n < length m → (n + k < length m) × (length m ≤ n + k + T))
+    → heldBetween low high m ≤ heldTicks (take T (drop k m))
+between-window T k low high [] f = omega arith
+between-window T (suc k) low high (b ∷ m) f =
+    omega (
+      arith,
+      outside b low high (length m) (λ h l. absurd (omega (arith, f (length m) h l (omega arith) .0))),
+      between-window T k low high m (λ n h l j. let p = f n h l (omega arith) in (omega (arith, p .0), omega (arith, p .1))),
+    )
+between-window zero zero low high (b ∷ m) f =
+    omega (
+      arith,
+      outside b low high (length m) (λ h l. absurd (omega (arith, f (length m) h l (omega arith) .1))),
+      between-window 0 0 low high m (λ n h l j. (omega arith, omega (arith, f n h l (omega arith) .1))),
+    )
+between-window (suc T) zero low high (b ∷ m) f =
+    omega (
+      arith,
+      at-most-one b (leb low (length m)) (ltb (length m) high),
+      between-window T 0 low high m (λ n h l j. (omega arith, omega (arith, f n h l (omega arith) .1))),
+    )
+
+-- at most C in any window of T, said by the moments that it covers
+abbrev pub Anywhere : ℕ → ℕ → List Bool → Type 0
+Anywhere T C m = (low : ℕ) → heldBetween low (low + T) m ≤ C
+
+pub within-anywhere : (T C : ℕ) (m : List Bool) → Within T C m → Anywhere T C m
+within-anywhere T C m w low =
+    let k : ℕ = length m - (low + T) in
+    omega (arith, between-window T k low (low + T) m (λ n h l j. (omega arith, omega arith)), w k)
+
+-- between moments at which it owns no tick a stay holds nothing
+between-unowned : (s : Stay) (low high : ℕ) (h : List (Option ℕ)) → ((o : Option ℕ) (n : ℕ) → low ≤ n → n < high → owns s o n ≡ false)
+    → heldBetween low high (held s h) ≡ 0
+between-unowned s low high [] f = refl
+between-unowned s low high (o ∷ h) f =
+    omega (
+      arith,
+      subst (λ (n : ℕ). cond (owns s o (length h) && leb low n && ltb n high) 1 0 ≤ 0) (sym (length-held s h))
+          (outside (owns s o (length h)) low high (length h) (f o (length h))),
+      between-unowned s low high h f,
+    )
+
+-- so before its admission
+pub between-admission : (s : Stay) (h : List (Option ℕ)) → heldBetween 0 (s .from) (held s h) ≡ 0
+between-admission s h = between-unowned s 0 (s .from) h (λ o n l k. owns-none s o n k)
+
+-- and from its end on
+pub between-over : (s : Stay) (end low high : ℕ) (h : List (Option ℕ)) → s .until ≡ some end → end ≤ low
+    → heldBetween low high (held s h) ≡ 0
+between-over s end low high h e k = between-unowned s low high h (λ o n l j. owns-over s o end n e (omega arith))
 
 -- at most C from one boundary to the next, and from its admission to the first
 abbrev pub Once : List Bool → Stay → Type 0
 Once m s = (k : ℕ) → heldBetween (boundary s k) (boundary s (k + 1)) m ≤ s .terms .capacity
 
-boundary-next : (s : Stay) (k : ℕ) → boundary s (k + 1) ≡ boundary s k + s .terms .period
+pub boundary-next : (s : Stay) (k : ℕ) → boundary s (k + 1) ≡ boundary s k + s .terms .period
 boundary-next s k = omega (arith, add-mul k 1 (s .terms .period))
 
 boundary-later : (s : Stay) (j k : ℕ) → j ≤ k → boundary s j ≤ boundary s k

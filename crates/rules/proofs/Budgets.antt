@@ -33,7 +33,7 @@ use Rattle.rules.proofs.ThreeKinds.{boundary-after, terms-returned, run
 use Rattle.rules.proofs.Meaning.{rising-all}
 use Rattle.rules.proofs.Sound.{Sound}
 use Rattle.rules.proofs.Accepted.{passed, in-time}
-use Rattle.rules.proofs.Advance.{stepped, each-stepped}
+use Rattle.rules.proofs.Advance.{stepped, is-there, was-there}
 use Rattle.rules.proofs.Changed.{among-placed, placed-among}
 use Rattle.rules.proofs.Reached.{reached, card-accepted}
 use Rattle.rules.proofs.Rows.{same, not-given}
@@ -495,44 +495,36 @@ known now (block t) vs w m n = known-marked t false vs w m
 known now (remove t) vs w m n = (w, among-keep (λ v. not (named t v)) vs w m .0, inl refl)
 known now tick vs w m n = (w, m, inl refl)
 
-module _ (c : Card) (call : Call)
-    (each : (v : Vcpu) → Among v (c .vcpus)
-    → Sound (c .last) v × Stepped c (call .now) v (stepped (c .last) (call .now) (c .running) v)) where
-  abbrev step : Vcpu → Vcpu
-  step = stepped (c .last) (call .now) (c .running)
+-- what steps 1 and 2 make of a VCPU fits, whatever mark step 3 gives it
+module _ (calls : List Call) (call : Call) (e : refusal (after calls) (call .now) (call .asked) ≡ none) where
+  pub fits-stepped : (v : Vcpu) → Among v (after calls .vcpus) → (w : Vcpu)
+      → Marked (stepped (after calls .last) (call .now) (after calls .running) v) w → Budget (after calls) (call .now) v w
+  fits-stepped v m =
+      let r = reached calls in
+      let late = passed (after calls) (call .now) (call .asked) e .not-late in
+      let s = all-among (Sound (after calls .last)) (after calls .vcpus) (r .lawful .sound) v m in
+      let pace = all-among _ (after calls .vcpus) (in-time (after calls) (call .now) (r .settled) (r .lawful .once) late) v m in
+      budget-of (after calls) (call .now) v s (stepped (after calls .last) (call .now) (after calls .running) v)
+      (is-stepped (after calls) (call .now) v s pace)
 
-  then : (v : Vcpu) → Among v (c .vcpus) → (call .asked ≡ remove (v .terms .tunnel) → ⊥)
-      → (w : Vcpu) × Among w (afterChange c call) × Budget c (call .now) v w
+  then : (v : Vcpu) → Among v (after calls .vcpus) → (call .asked ≡ remove (v .terms .tunnel) → ⊥)
+      → (w : Vcpu) × Among w (afterChange (after calls) call) × Budget (after calls) (call .now) v w
   then v m n =
-      let k = each v m in
-      let p = left (call .now) (call .asked) (afterReturn c (call .now)) (step v)
-      (subst (λ (l : List Vcpu). Among (step v) l) (sym (each-stepped c (call .now))) (map-among step (c .vcpus) v m))
-      (λ e. n (e ∙ ap (λ x. remove (x .tunnel)) (k .1 .same-terms))) in
-      (p .0, p .1, budget-of c (call .now) v (k .0) (step v) (k .1) (p .0) (p .2))
+      let u = stepped (after calls .last) (call .now) (after calls .running) v in
+      let p = left (call .now) (call .asked) (afterReturn (after calls) (call .now)) u (is-there (after calls) (call .now) v m)
+      (λ e. n (e ∙ ap (λ x. remove (x .tunnel)) (fits-stepped v m u (inl refl) .same-terms))) in
+      (p .0, p .1, fits-stepped v m (p .0) (p .2))
 
-  was : (w : Vcpu) → Among w (afterChange c call) → (AdmitOf (call .asked) (w .terms .tunnel) → ⊥)
-      → (v : Vcpu) × Among v (c .vcpus) × Budget c (call .now) v w
+  was : (w : Vcpu) → Among w (afterChange (after calls) call) → (AdmitOf (call .asked) (w .terms .tunnel) → ⊥)
+      → (v : Vcpu) × Among v (after calls .vcpus) × Budget (after calls) (call .now) v w
   was w m n =
-      let p = known (call .now) (call .asked) (afterReturn c (call .now)) w m n in
-      let q = among-map step (c .vcpus) (p .0) (subst (λ (l : List Vcpu). Among (p .0) l) (each-stepped c (call .now)) (p .1)) in
-      let k = each (q .0) (q .1) in
-      (q .0, q .1, budget-of c (call .now) (q .0) (k .0) (p .0) (subst (Stepped c (call .now) (q .0)) (sym (q .2)) (k .1)) w (p .2))
+      let p = known (call .now) (call .asked) (afterReturn (after calls) (call .now)) w m n in
+      let q = was-there (after calls) (call .now) (p .0) (p .1) in
+      (q .0, q .1, fits-stepped (q .0) (q .1) w (subst (λ (u : Vcpu). Marked u w) (q .2) (p .2)))
 
 pub budgets : (calls : List Call) (call : Call) → NoRow (after calls) call → Budgets (after calls) call (after (call ∷ calls) .vcpus)
 unfolding settled
 budgets calls call h =
     let e = not-given (after calls) call h in
     subst (λ (d : Card). Budgets (after calls) call (d .vcpus)) (sym (card-accepted (after calls) call e))
-    (record { then = then (after calls) call (each e); was = was (after calls) call (each e) })
-  where
-    each : refusal (after calls) (call .now) (call .asked) ≡ none → (v : Vcpu) → Among v (after calls .vcpus)
-        → Sound (after calls .last) v
-        × Stepped (after calls) (call .now) v (stepped (after calls .last) (call .now) (after calls .running) v)
-    each e v m =
-        let r = reached calls in
-        let late = passed (after calls) (call .now) (call .asked) e .not-late in
-        let s = all-among (Sound (after calls .last)) (after calls .vcpus) (r .lawful .sound) v m in (
-          s,
-          is-stepped (after calls) (call .now) v s
-              (all-among _ (after calls .vcpus) (in-time (after calls) (call .now) (r .settled) (r .lawful .once) late) v m),
-        )
+    (record { then = then calls call e; was = was calls call e })

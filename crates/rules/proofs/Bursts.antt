@@ -119,12 +119,13 @@ pub shifted-next : (boundaries (at 4 (admit (server 1 10 3)) ∷ []) ≡ some 14
 unfolding turn refusal settled timer moreUrgent charged posted
 shifted-next = (refl, refl)
 
--- polling, removed and admitted again at 12, while it has its refill: the new stay has none before its own first boundary, at 22
+-- polling, removed at 12, while it has its refill, and admitted again at 20, its next boundary, and no sooner: the new stay has none
+-- before its own first boundary, at 30
 abbrev again : List Call
 again =
-    at 21 tick
-    ∷ at 12 (wake 2)
-    ∷ at 12 (admit (server 2 10 3))
+    at 29 tick
+    ∷ at 20 (wake 2)
+    ∷ at 20 (admit (server 2 10 3))
     ∷ at 12 (remove 2)
     ∷ at 10 tick
     ∷ at 9 (wake 2)
@@ -135,6 +136,6 @@ pub again-spent : spent again ≡ (0 ∷ 0 ∷ 0 ∷ []) ∷ (0 ∷ 2 ∷ 0 ∷ 
 unfolding turn refusal settled timer moreUrgent charged posted
 again-spent = refl
 
-pub again-usable : (usableTicks again ≡ 0 ∷ []) × (usableTicks (at 22 tick ∷ again) ≡ 3 ∷ [])
+pub again-usable : (usableTicks again ≡ 0 ∷ []) × (usableTicks (at 30 tick ∷ again) ≡ 3 ∷ [])
 unfolding turn refusal settled timer moreUrgent charged posted
 again-usable = (refl, refl)

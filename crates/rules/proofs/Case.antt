@@ -5,6 +5,7 @@ use mathlib.Core.Path.{_≡_, refl}
 use mathlib.Core.List.{List, [], _∷_}
 use mathlib.Core.Option.{Option, none, some}
 use Rattle.rules.specs.Vcpu.{Description, Vcpu, admitted, moreUrgent}
+use Rattle.rules.specs.Remember.{Remembered}
 use Rattle.rules.specs.Card.{Card, empty}
 use Rattle.rules.specs.Charge.{posted, charged}
 use Rattle.rules.specs.Change.{admit, wake, block, remove, tick}
@@ -14,14 +15,14 @@ use Rattle.rules.specs.Turn.{Call, Reply, ok, refused, turn, settled}
 use Rattle.rules.specs.History.{ticks}
 use Rattle.rules.proofs.Examples.{at}
 
-abbrev replies : Card → List Call → List Reply
+abbrev pub replies : Card → List Call → List Reply
 replies c [] = []
 replies c (call ∷ calls) = (turn c call) .reply ∷ replies ((turn c call) .card) calls
 
-abbrev says : ℕ → Option ℕ → ℕ → Option ℕ → Reply
+abbrev pub says : ℕ → Option ℕ → ℕ → Option ℕ → Reply
 says time run usable timer = ok (record { time = time; run = run; usable = usable; timer = timer })
 
-abbrev no′ : ℕ → ℕ → Reply
+abbrev pub no′ : ℕ → ℕ → Reply
 no′ number detail = refused (record { number = number; detail = detail })
 
 pub case :
@@ -132,12 +133,18 @@ pub first-rows :
 unfolding turn refusal settled timer moreUrgent charged posted
 first-rows = refl
 
--- "up to 32 VCPUs": one more has a place beside 31 others, and none beside 32
+-- "up to 32 VCPUs": one more has a place beside 31 others, and none beside 32; those remembered take a place too
 abbrev others : ℕ → List Vcpu
 others n = ticks n (admitted 0 (record { tunnel = 1; period = 10; capacity = 3; priority = 1; kind = 0 })) []
 
 abbrev newcomer : Description
 newcomer = record { tunnel = 2; period = 10; capacity = 3; priority = 1; kind = 0 }
 
-pub room : (admitRows (others 31) newcomer ≡ none) × (admitRows (others 32) newcomer ≡ some (record { number = 8; detail = 0 }))
-room = (refl, refl)
+abbrev left : ℕ → List Remembered
+left n = ticks n (record { tunnel = 3; time = 10 }) []
+
+pub room :
+    (admitRows (others 31) [] newcomer ≡ none) × (admitRows (others 32) [] newcomer ≡ some (record { number = 8; detail = 0 }))
+    × (admitRows (others 20) (left 11) newcomer ≡ none)
+    × (admitRows (others 20) (left 12) newcomer ≡ some (record { number = 8; detail = 0 }))
+room = (refl, refl, refl, refl)

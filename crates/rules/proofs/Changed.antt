@@ -12,6 +12,7 @@ use lib.ListN.{length, length-map}
 use borrow.Author.Tests.{eqb-true, eqb-false, eq-eqb, ne-eqb, not-true}
 use Rattle.rules.specs.Lists.{keep, count, All, Among}
 use Rattle.rules.specs.Vcpu.{Description, Vcpu, admitted, moreUrgent, named}
+use Rattle.rules.specs.Remember.{Remembered}
 use Rattle.rules.specs.Card.{toNamed}
 use Rattle.rules.specs.Change.{Change, admit, wake, block, remove, tick, placed, setRunnable, change}
 use Rattle.rules.specs.Refuse.{callRows}
@@ -21,7 +22,7 @@ use Rattle.rules.specs.Slices.{recent, returnsOf}
 use Rattle.rules.proofs.Tests.{clash, no-some, cases}
 use Rattle.rules.proofs.Named.{named-says, is-named, not-named}
 use Rattle.rules.proofs.Lists.{all-imp, all-map, all-every, all-among, among-all, all-keep, among-keep, count-none}
-use Rattle.rules.proofs.Lists.{count-among, count-same, any-false}
+use Rattle.rules.proofs.Lists.{count-among, count-same, any-false, length-keep}
 use Rattle.rules.proofs.Slices.{begun-idle, begun-none, going, going-gap, slices-idle}
 use Rattle.rules.proofs.Sound.{Sound, sound-admitted, sound-set}
 use Rattle.rules.proofs.Window.{within-none, within-idle}
@@ -59,7 +60,7 @@ placed-among v (w ∷ vs) u m = go (moreUrgent (v .terms) (w .terms)) m (λ k. p
     go false (inl e) ih = inl e
     go false (inr k) ih = inr (ih k)
 
-count-placed : (test : Vcpu → Bool) (v : Vcpu) (vs : List Vcpu) → count test (placed v vs) ≡ cond (test v) 1 0 + count test vs
+pub count-placed : (test : Vcpu → Bool) (v : Vcpu) (vs : List Vcpu) → count test (placed v vs) ≡ cond (test v) 1 0 + count test vs
 count-placed test v [] = refl
 count-placed test v (w ∷ vs) = go (moreUrgent (v .terms) (w .terms)) (count-placed test v vs)
   where
@@ -76,13 +77,30 @@ length-placed v (w ∷ vs) = go (moreUrgent (v .terms) (w .terms)) (length-place
     go true k = refl
     go false k = ap suc k
 
-pub length-keep : (test : Vcpu → Bool) (vs : List Vcpu) → length (keep test vs) ≤ length vs
-length-keep test [] = omega arith
-length-keep test (v ∷ vs) = go (test v) (length-keep test vs)
+-- a VCPU removed is one less
+
+abbrev pub other : ℕ → Vcpu → Bool
+other t v = not (named t v)
+
+pub count-left : (t u : ℕ) (vs : List Vcpu) → count (named u) (keep (other t) vs) ≡ cond (eqb u t) 0 (count (named u) vs)
+count-left t u vs = ⊎-elim (λ e. rw e (gone vs (eqb-true u t e))) (λ e. rw e (same vs (eqb-false u t e))) (cases (eqb u t))
   where
-    go : (t : Bool) → length (keep test vs) ≤ length vs → length (cond t (v ∷ keep test vs) (keep test vs)) ≤ suc (length vs)
-    go true k = omega arith
-    go false k = omega arith
+    gone : (vs : List Vcpu) → u ≡ t → count (named u) (keep (other t) vs) ≡ 0
+    gone vs e =
+        count-none (named u) (keep (other t) vs)
+        (among-all (λ v. named u v ≡ false) (keep (other t) vs)
+        (λ v m. subst (λ (x : ℕ). named x v ≡ false) (sym e) (not-true (named t v) (among-keep (other t) vs v m .1))))
+
+    same : (vs : List Vcpu) → (u ≡ t → ⊥) → count (named u) (keep (other t) vs) ≡ count (named u) vs
+    same [] n = refl
+    same (v ∷ vs) n = go (named t v) refl (same vs n)
+      where
+        go : (b : Bool) → named t v ≡ b → count (named u) (keep (other t) vs) ≡ count (named u) vs
+            → count (named u) (cond (not b) (v ∷ keep (other t) vs) (keep (other t) vs)) ≡ cond (named u v) 1 0 + count (named u) vs
+        go true e ih =
+            let f : named u v ≡ false = not-named u v (λ g. n (sym g ∙ named-says t v e)) in
+            rw f (omega arith)
+        go false e ih = omega arith
 
 module _ (now : ℕ) (vs : List Vcpu) (ss : List Stay) (h : List (Option ℕ)) (l : Lawful now vs ss h) where
   -- wake, block: only the mark `runnable` moves, and the usable ticks of a polling VCPU
@@ -116,7 +134,7 @@ module _ (now : ℕ) (vs : List Vcpu) (ss : List Stay) (h : List (Option ℕ)) (
       same u = count-same (named u) (named u) mark vs (all-imp (λ v s. pick (λ w. named u w ≡ named u v) v (λ e. e) refl) vs (l .sound))
 
   -- admit
-  module _ (d : Description) (a : Admits vs d) where
+  module _ (rs : List Remembered) (d : Description) (a : Admits vs rs d) where
     abbrev newStay : Stay
     newStay = record { terms = d; from = now; until = none }
 
@@ -145,6 +163,7 @@ module _ (now : ℕ) (vs : List Vcpu) (ss : List Stay) (h : List (Option ℕ)) (
                 at-most = λ x k. omega (arith, begun-idle (d .period) x (length h) [], begun-none (d .period) x);
                 one-for-one = λ f. sym (ap (λ ss. returnsOf (d .period) (recent (d .period) now ss))
                     (slices-idle (d .period) (length h) []));
+                latest = λ w. clash (sym w);
                 goes-on = λ g. absurd (omega (arith, none-going (length h)));
                 since = λ e w k. clash (sym w);
               });
@@ -187,9 +206,6 @@ module _ (now : ℕ) (vs : List Vcpu) (ss : List Stay) (h : List (Option ℕ)) (
 
   -- remove: the stay so named ends, and its VCPU leaves
   module _ (t : ℕ) where
-    abbrev other : Vcpu → Bool
-    other v = not (named t v)
-
     -- a stay that goes on was not the one removed
     goes-on : (s : Stay) → lasts (withEnd now t s .until) ≡ true → (lasts (s .until) ≡ true) × (eqb (s .terms .tunnel) t ≡ false)
     goes-on s u = go (s .until) (eqb (s .terms .tunnel) t) refl u
@@ -235,36 +251,16 @@ module _ (now : ℕ) (vs : List Vcpu) (ss : List Stay) (h : List (Option ℕ)) (
             count-same (lastsAs u) (lastsAs u) (withEnd now t) ss
             (all-every (λ s. spared s n (s .until) (eqb (s .terms .tunnel) t) refl) ss)
 
-    count-left : (u : ℕ) (vs : List Vcpu) → count (named u) (keep other vs) ≡ cond (eqb u t) 0 (count (named u) vs)
-    count-left u vs = ⊎-elim (λ e. rw e (gone vs (eqb-true u t e))) (λ e. rw e (same vs (eqb-false u t e))) (cases (eqb u t))
-      where
-        gone : (vs : List Vcpu) → u ≡ t → count (named u) (keep other vs) ≡ 0
-        gone vs e =
-            count-none (named u) (keep other vs)
-            (among-all (λ v. named u v ≡ false) (keep other vs)
-            (λ v m. subst (λ (x : ℕ). named x v ≡ false) (sym e) (not-true (named t v) (among-keep other vs v m .1))))
-
-        same : (vs : List Vcpu) → (u ≡ t → ⊥) → count (named u) (keep other vs) ≡ count (named u) vs
-        same [] n = refl
-        same (v ∷ vs) n = go (named t v) refl (same vs n)
-          where
-            go : (b : Bool) → named t v ≡ b → count (named u) (keep other vs) ≡ count (named u) vs
-                → count (named u) (cond (not b) (v ∷ keep other vs) (keep other vs)) ≡ cond (named u v) 1 0 + count (named u) vs
-            go true e ih =
-                let f : named u v ≡ false = not-named u v (λ g. n (sym g ∙ named-says t v e)) in
-                rw f (omega arith)
-            go false e ih = omega arith
-
-    removed-lawful : Lawful now (keep other vs) (map (withEnd now t) ss) h
+    removed-lawful : Lawful now (keep (other t) vs) (map (withEnd now t) ss) h
     removed-lawful =
         record {
-          sound = all-keep (Sound now) other vs (l .sound);
-          once = λ u. omega (arith, count-left u vs, no-more u, l .once u);
-          few = omega (arith, length-keep other vs, l .few);
+          sound = all-keep (Sound now) (other t) vs (l .sound);
+          once = λ u. omega (arith, count-left t u vs, no-more u, l .once u);
+          few = omega (arith, length-keep (other t) vs, l .few);
           long = l .long;
-          on-card = λ u. count-ended u ss ∙ ap (cond (eqb u t) 0) (l .on-card u) ∙ sym (count-left u vs);
+          on-card = λ u. count-ended u ss ∙ ap (cond (eqb u t) 0) (l .on-card u) ∙ sym (count-left t u vs);
           dated = all-map (Dated now) (withEnd now t) over-by-now ss (l .dated);
-          paired = all-map (Paired now (keep other vs) h) (withEnd now t) left-paired ss (l .paired);
+          paired = all-map (Paired now (keep (other t) vs) h) (withEnd now t) left-paired ss (l .paired);
           bounded = all-map (Bounded h) (withEnd now t) (λ s w i. rw (held-end now t s h (omega (arith, l .long))) (w i)) ss (l .bounded);
           owned = each-imp (λ o n. owners ss o n ≡ 1) (λ o n. owners (map (withEnd now t) ss) o n ≡ 1) h
               (λ o n k e. ap (λ (x : ℕ). cond (isIdle o) 1 0 + x) (as-many o n (omega (arith, l .long))) ∙ e) (l .owned);
@@ -281,18 +277,19 @@ module _ (now : ℕ) (vs : List Vcpu) (ss : List Stay) (h : List (Option ℕ)) (
         as-many o n k =
             count-same (λ s. owns s o n) (λ s. owns s o n) (withEnd now t) ss (all-every (λ s. owns-end now t s o n k) ss)
 
-        left-paired : (s : Stay) → Paired now vs h s → Paired now (keep other vs) h (withEnd now t s)
+        left-paired : (s : Stay) → Paired now vs h s → Paired now (keep (other t) vs) h (withEnd now t s)
         left-paired s p u =
-            all-keep (λ v. v .terms .tunnel ≡ s .terms .tunnel → Pair now (withEnd now t s) v h) other vs
+            all-keep (λ v. v .terms .tunnel ≡ s .terms .tunnel → Pair now (withEnd now t s) v h) (other t) vs
             (all-imp (λ v q e. record {
               same-terms = q e .same-terms;
               tied = λ i. rw (held-end now t s h (omega (arith, l .long))) (q e .tied i);
             }) vs
             (p (goes-on s u .0)))
 
-  pub changed : (asked : Change) → callRows vs asked ≡ none → Lawful now (change now asked vs) (changeStays now asked ss) h
-  changed (admit d) e = admitted-lawful d (admits vs d e)
-  changed (wake t) e = marked t true
-  changed (block t) e = marked t false
-  changed (remove t) e = removed-lawful t
-  changed tick e = l
+  pub changed : (rs : List Remembered) (asked : Change) → callRows vs rs asked ≡ none
+      → Lawful now (change now asked vs) (changeStays now asked ss) h
+  changed rs (admit d) e = admitted-lawful rs d (admits vs rs d e)
+  changed rs (wake t) e = marked t true
+  changed rs (block t) e = marked t false
+  changed rs (remove t) e = removed-lawful t
+  changed rs tick e = l

@@ -30,6 +30,8 @@ use Rattle.rules.proofs.Reached.{reached, told-by-card}
 use Rattle.rules.proofs.Folded.{folds-exactly}
 use Rattle.rules.proofs.Runnable.{runnable-told}
 use Rattle.rules.proofs.Refills.{at-most-once, at-most-twice, next-boundary, unused, polled}
+use Rattle.rules.proofs.Together.{together-sporadic, together-refills}
+use Rattle.rules.proofs.ComesBack.{no-sooner, remembered}
 
 module _ (calls : List Call) where
   abbrev c : Card
@@ -125,6 +127,10 @@ demand3 calls =
       next-boundary = next-boundary calls;
       unused = unused calls;
       polled = polled calls;
+      together = among-all _ (stays (heard calls)) (λ s m. together-sporadic (heard calls) s (no-sooner calls) (r .bounded));
+      together-twice = among-all _ (stays (heard calls)) (λ s m. together-refills (heard calls) s (no-sooner calls) (at-most-once calls));
+      no-sooner = no-sooner calls;
+      remembered = remembered calls;
       one-owner = r .owned;
       adds-up = all-held (stays (heard calls)) (past (heard calls)) (r .owned) ∙ r .long ∙ same-time calls;
       stays-on-card = r .on-card;

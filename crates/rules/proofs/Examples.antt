@@ -91,7 +91,7 @@ gap-held = refl
 abbrev short : ℕ → List Call → List Call
 short now calls = at (now + 1) (block 2) ∷ at now (wake 2) ∷ calls
 
-abbrev eight : List Call
+abbrev pub eight : List Call
 eight = short 14 (short 12 (short 10 (short 8 (short 6 (short 4 (short 2 (short 0 (at 0 (admit (tenant 20 9)) ∷ []))))))))
 
 pub eight-held : figuresOf eight ≡ figures 0 none false 8 8 ∷ []
@@ -137,8 +137,9 @@ pub cut-usable : usableTicks cut ≡ 1 ∷ []
 unfolding turn refusal settled timer moreUrgent charged posted
 cut-usable = refl
 
--- removed and admitted at one moment, while it ran: two stays, whose ticks are counted apart; the other four ticks were idle. Where a
--- stay owned the tick before its admission, the second would hold 4 of C 3.
+-- T = C = 2, removed at 2, while it ran: its two ticks are back at that moment, so it is forgotten at once, and admitted again with T 10,
+-- C 3. Two stays, whose ticks are counted apart; the other four ticks were idle. Where a stay owned the tick before its admission, the
+-- second would hold 4 of C 3.
 abbrev again : List Call
 again =
     at 9 tick
@@ -147,10 +148,10 @@ again =
     ∷ at 2 (admit (tenant 10 3))
     ∷ at 2 (remove 2)
     ∷ at 0 (wake 2)
-    ∷ at 0 (admit (tenant 10 3))
+    ∷ at 0 (admit (tenant 2 2))
     ∷ []
 
-pub again-held : figuresOf again ≡ figures 2 none false 3 3 ∷ figures 0 (some 2) false 2 2 ∷ []
+pub again-held : figuresOf again ≡ figures 2 none false 3 3 ∷ figures 0 (some 2) false 0 0 ∷ []
 unfolding turn refusal settled timer moreUrgent charged posted
 again-held = refl
 

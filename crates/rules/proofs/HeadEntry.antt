@@ -55,7 +55,7 @@ answerHead c call (some r) = record { reply = refused r; card = c }
 answerHead c call none =
     let d : Card =
     settled (call .now)
-    (change (call .now) (call .asked) (map (returnedHead (call .now)) (chargeHead (call .now - c .last) (c .running) (c .vcpus)))) in
+    (change (call .now) (call .asked) (map (returnedHead (call .now)) (chargeHead (call .now - c .last) (c .running) (c .vcpus)))) [] in
     record { reply = ok (report d); card = d }
 
 abbrev turnHead : Card → Call → Answer

@@ -51,6 +51,10 @@ owns-none s o n h = rw (lt-leb (s .from) n h) (go (holds (s .terms .tunnel) o))
     go true = refl
     go false = refl
 
+-- nor from its end on
+pub owns-over : (s : Stay) (o : Option ℕ) (end n : ℕ) → s .until ≡ some end → end ≤ n → owns s o n ≡ false
+owns-over s o end n e h = rw (e, le-ltb n end h) (and-right (holds (s .terms .tunnel) o && leb (s .from) n))
+
 pub held-new : (s : Stay) (h : List (Option ℕ)) → length h ≤ s .from → held s h ≡ ticks (length h) false []
 held-new s [] k = refl
 held-new s (o ∷ h) k =

@@ -1,14 +1,16 @@
--- The theorems about the rules (Demand3, Meaning, Rows, Marks, Budgets), computed examples (Case, Examples, HeadEntry, Bursts), and the
--- laws that carry them. Assumes nothing.
+-- The theorems about the rules (Demand3, Meaning, Rows, Marks, Budgets, Leaving), computed examples (Case, Examples, HeadEntry, Bursts,
+-- DoubleShare), and the laws that carry them. Assumes nothing.
 pub mod Demand3
 pub mod Meaning
 pub mod Rows
 pub mod Marks
 pub mod Budgets
+pub mod Leaving
 pub mod Case
 pub mod Examples
 pub mod HeadEntry
 pub mod Bursts
+pub mod DoubleShare
 pub mod Tests
 pub mod Lists
 pub mod Named
@@ -17,8 +19,10 @@ pub mod Urgency
 pub mod Choice
 pub mod Timer
 pub mod Slices
+pub mod LatestSlice
 pub mod Window
 pub mod Boundaries
+pub mod Together
 pub mod Queue
 pub mod Returns
 pub mod Sound
@@ -28,8 +32,11 @@ pub mod Held
 pub mod Lawful
 pub mod Advance
 pub mod Changed
+pub mod Memory
+pub mod Owes
 pub mod Reached
 pub mod Folded
 pub mod Runnable
 pub mod Filled
 pub mod Refills
+pub mod ComesBack

@@ -1,9 +1,9 @@
--- Laws of the words on lists: a fact of every one, membership, keeping, counting, and a map.
+-- Laws of the words on lists: a fact of every one, membership, keeping, counting, a map, and one list behind another.
 -- Assumes nothing.
 use mathlib.Core.Path.{_≡_, refl, ap, sym, _∙_, subst}
-use mathlib.Core.Bool.{Bool, true, false, cond, _&&_}
-use mathlib.Core.List.{List, [], _∷_, map}
-use mathlib.Core.Logic.{_⊎_, inl, inr}
+use mathlib.Core.Bool.{Bool, true, false, cond, not, _&&_}
+use mathlib.Core.List.{List, [], _∷_, _++_, map}
+use mathlib.Core.Logic.{_⊎_, inl, inr, ⊎-elim}
 use Prim.Native.Nat.{ℕ, zero, suc, _+_, _≤_}
 use native.Mathlib.Omega.{arith}
 use lib.ListN.{length}
@@ -54,6 +54,17 @@ module _ {A : Type 0} where
   pub map-among : {B : Type 0} (g : A → B) (l : List A) (a : A) → Among a l → Among (g a) (map g l)
   map-among g (b ∷ l) a (inl e) = inl (ap g e)
   map-among g (b ∷ l) a (inr m) = inr (map-among g l a m)
+
+  pub among-append : (l k : List A) (a : A) → Among a (l ++ k) → Among a l ⊎ Among a k
+  among-append [] k a m = inr m
+  among-append (b ∷ l) k a (inl e) = inl (inl e)
+  among-append (b ∷ l) k a (inr m) = ⊎-elim (λ n. inl (inr n)) (λ n. inr n) (among-append l k a m)
+
+  pub append-among : (l k : List A) (a : A) → Among a l ⊎ Among a k → Among a (l ++ k)
+  append-among [] k a (inr m) = m
+  append-among (b ∷ l) k a (inl (inl e)) = inl e
+  append-among (b ∷ l) k a (inl (inr m)) = inr (append-among l k a (inl m))
+  append-among (b ∷ l) k a (inr m) = inr (append-among l k a (inr m))
 
   pub all-keep : (P : A → Type 0) (test : A → Bool) (l : List A) → All P l → All P (keep test l)
   all-keep P test [] h = tt
@@ -170,3 +181,48 @@ module _ {A : Type 0} where
   pub length-ticks : (d : ℕ) (a : A) (l : List A) → length (ticks d a l) ≡ d + length l
   length-ticks zero a l = omega arith
   length-ticks (suc d) a l = omega (arith, length-ticks d a l)
+
+  pub all-append : (P : A → Type 0) (l m : List A) → All P l → All P m → All P (l ++ m)
+  all-append P [] m h k = k
+  all-append P (a ∷ l) m h k = (h .0, all-append P l m (h .1) k)
+
+  pub count-append : (test : A → Bool) (l m : List A) → count test (l ++ m) ≡ count test l + count test m
+  count-append test [] m = omega arith
+  count-append test (a ∷ l) m = omega (arith, count-append test l m)
+
+  pub length-keep : (test : A → Bool) (l : List A) → length (keep test l) ≤ length l
+  length-keep test [] = omega arith
+  length-keep test (a ∷ l) = go (test a) (length-keep test l)
+    where
+      go : (t : Bool) → length (keep test l) ≤ length l → length (cond t (a ∷ keep test l) (keep test l)) ≤ suc (length l)
+      go true k = omega arith
+      go false k = omega arith
+
+  pub length-kept : (test : A → Bool) (l : List A) → length (keep test l) ≡ count test l
+  length-kept test [] = refl
+  length-kept test (a ∷ l) = go (test a) (length-kept test l)
+    where
+      go : (t : Bool) → length (keep test l) ≡ count test l
+          → length (cond t (a ∷ keep test l) (keep test l)) ≡ cond t 1 0 + count test l
+      go true e = omega arith
+      go false e = omega arith
+
+  pub count-keep : (test kept : A → Bool) (l : List A) → count test (keep kept l) ≤ count test l
+  count-keep test kept [] = omega arith
+  count-keep test kept (a ∷ l) = go (kept a) (count-keep test kept l)
+    where
+      go : (t : Bool) → count test (keep kept l) ≤ count test l
+          → count test (cond t (a ∷ keep kept l) (keep kept l)) ≤ cond (test a) 1 0 + count test l
+      go true k = omega arith
+      go false k = omega arith
+
+  -- without those that pass there are so many fewer
+  pub length-without : (test : A → Bool) (l : List A) → length (keep (λ a. not (test a)) l) + count test l ≡ length l
+  length-without test [] = refl
+  length-without test (a ∷ l) = go (test a) (length-without test l)
+    where
+      go : (t : Bool) → length (keep (λ a. not (test a)) l) + count test l ≡ length l
+          → length (cond (not t) (a ∷ keep (λ a. not (test a)) l) (keep (λ a. not (test a)) l)) + (cond t 1 0 + count test l)
+          ≡ suc (length l)
+      go true k = omega arith
+      go false k = omega arith

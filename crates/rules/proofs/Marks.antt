@@ -10,6 +10,8 @@ use native.Mathlib.Omega.{arith}
 use borrow.Author.Tests.{not-true}
 use Rattle.rules.specs.Lists.{keep, count, Among}
 use Rattle.rules.specs.Vcpu.{Description, Vcpu, admitted, named}
+use Rattle.rules.specs.Remember.{Remembered}
+use Rattle.rules.specs.Remember.{kept as kept-at}
 use Rattle.rules.specs.Card.{Card, onCard, toNamed}
 use Rattle.rules.specs.Change.{Change, admit, wake, block, remove, tick, placed, setRunnable, change}
 use Rattle.rules.specs.Refuse.{callRows}
@@ -23,7 +25,7 @@ use Rattle.rules.proofs.Named.{named-says, is-named, not-named, is-on-c
 use Rattle.rules.proofs.Lists.{among-map, map-among, among-keep, keep-among, only-one}
 use Rattle.rules.proofs.ThreeKinds.{is-sporadic, not-sporadic, leaves-all, leaves-none}
 use Rattle.rules.proofs.Accepted.{passed, admits}
-use Rattle.rules.proofs.Advance.{stepped, each-stepped, terms-stepped, runnable-stepped}
+use Rattle.rules.proofs.Advance.{stepped, is-there, was-there, terms-stepped, runnable-stepped}
 use Rattle.rules.proofs.Changed.{among-placed, placed-itself, placed-among}
 use Rattle.rules.proofs.Reached.{reached, card-accepted}
 use Rattle.rules.proofs.Rows.{not-given}
@@ -97,12 +99,9 @@ newcomer now d =
     }
 
 module _ (c : Card) (now : ℕ) (once : (t : ℕ) → count (named t) (c .vcpus) ≤ 1) where
-  abbrev step : Vcpu → Vcpu
-  step = stepped (c .last) now (c .running)
-
   was : (v : Vcpu) → Among v (afterReturn c now) → Was (c .vcpus) v
   was v m =
-      let p = among-map step (c .vcpus) v (subst (λ (l : List Vcpu). Among v l) (each-stepped c now) m) in
+      let p = was-there c now v m in
       record {
         who = p .0;
         on-card = p .1;
@@ -111,11 +110,7 @@ module _ (c : Card) (now : ℕ) (once : (t : ℕ) → count (named t) (c .vcpus)
       }
 
   is : (u : Vcpu) → Among u (c .vcpus) → (v : Vcpu) × Among v (afterReturn c now) × (v .terms ≡ u .terms)
-  is u m = (
-    step u,
-    subst (λ (l : List Vcpu). Among (step u) l) (sym (each-stepped c now)) (map-among step (c .vcpus) u m),
-    terms-stepped (c .last) now (c .running) u,
-  )
+  is u m = (stepped (c .last) now (c .running) u, is-there c now u m, terms-stepped (c .last) now (c .running) u)
 
   abbrev Mark : Change → Vcpu → Type 0
   Mark asked v = v .runnable ≡ true ↔ RunnableThen (c .vcpus) asked (v .terms .tunnel)
@@ -254,9 +249,10 @@ module _ (c : Card) (now : ℕ) (once : (t : ℕ) → count (named t) (c .vcpus)
         others = λ t h k. o t;
       }
 
-  marks-of : (asked : Change) → callRows (c .vcpus) asked ≡ none → Marks (c .vcpus) now asked (change now asked (afterReturn c now))
-  marks-of (admit d) e =
-      let free = admits (c .vcpus) d e .not-there in
+  marks-of : (rs : List Remembered) (asked : Change) → callRows (c .vcpus) rs asked ≡ none
+      → Marks (c .vcpus) now asked (change now asked (afterReturn c now))
+  marks-of rs (admit d) e =
+      let free = admits (c .vcpus) rs d e .not-there in
       record {
         runnable = entered d free;
         admits = λ x f. let q : d ≡ x = cc in (admitted now d, placed-itself (admitted now d) (afterReturn c now), ap (λ x. x .tunnel) q);
@@ -267,9 +263,9 @@ module _ (c : Card) (now : ℕ) (once : (t : ℕ) → count (named t) (c .vcpus)
         removes = λ t f. absurd (omega (arith, ap kind f));
         others = λ t f g. entered-there d free t f;
       }
-  marks-of (wake t) e = all-stay (wake t) _ (omega arith) (omega arith) (woken t) (marked-there t true)
-  marks-of (block t) e = all-stay (block t) _ (omega arith) (omega arith) (blocked t) (marked-there t false)
-  marks-of (remove t) e =
+  marks-of rs (wake t) e = all-stay (wake t) _ (omega arith) (omega arith) (woken t) (marked-there t true)
+  marks-of rs (block t) e = all-stay (block t) _ (omega arith) (omega arith) (blocked t) (marked-there t false)
+  marks-of rs (remove t) e =
       record {
         runnable = spared t;
         admits = λ d f. absurd (omega (arith, ap kind f));
@@ -277,7 +273,7 @@ module _ (c : Card) (now : ℕ) (once : (t : ℕ) → count (named t) (c .vcpus)
         removes = λ u f. let q : t ≡ u = cc in gone t u q;
         others = λ u f g. left-there t u (λ q. g (ap remove q));
       }
-  marks-of tick e =
+  marks-of rs tick e =
       all-stay tick _ (omega arith) (omega arith)
       (λ v m. kept tick v m (λ e. omega (arith, ap kind e)) (λ e. omega (arith, ap kind e))
       (λ p. omega (arith, ap kind (p .1)))) stays-there
@@ -288,5 +284,5 @@ unfolding settled
 marks calls call h =
     let e = not-given (after calls) call h in
     subst (λ (d : Card). Marks (after calls .vcpus) (call .now) (call .asked) (d .vcpus)) (sym (card-accepted (after calls) call e))
-    (marks-of (after calls) (call .now) (reached calls .lawful .once) (call .asked)
+    (marks-of (after calls) (call .now) (reached calls .lawful .once) (kept-at (call .now) (after calls .remembered)) (call .asked)
     (passed (after calls) (call .now) (call .asked) e .asked-for))

@@ -1,17 +1,18 @@
 -- Steps 4 and 5 and the numbers of the card, as facts of the card after any calls from the empty card.
 -- Assumes nothing.
 use mathlib.Core.Path.{_≡_, refl, ap, sym, _∙_, subst}
-use mathlib.Core.Bool.{Bool, true, false, cond, _&&_}
+use mathlib.Core.Bool.{Bool, true, false, _&&_}
 use mathlib.Core.List.{List, [], _∷_}
-use mathlib.Core.Logic.{inl, inr, ⊎-elim}
+use mathlib.Core.Logic.{inl, ⊎-elim}
 use mathlib.Core.Option.{Option, none, some}
 use Prim.Native.Nat.{ℕ, suc, _+_, _≤_}
 use native.Mathlib.Omega.{arith}
 use lib.Dec.{ltb}
-use borrow.Author.Tests.{ltb-true, ltb-false}
+use borrow.Author.Tests.{ltb-true, ltb-false, eq-eqb}
 use Rattle.rules.specs.Limits.{largestTime}
 use Rattle.rules.specs.Lists.{count, All, Among}
 use Rattle.rules.specs.Vcpu.{Entry, Vcpu, named}
+use Rattle.rules.specs.Remember.{remembers}
 use Rattle.rules.specs.Card.{Card, find}
 use Rattle.rules.specs.Choose.{ready, choose, runs, usableOf}
 use Rattle.rules.specs.Timer.{earliest, nexts, runnable, timer}
@@ -22,14 +23,15 @@ use Rattle.rules.specs.Meaning.{Keeps, sporadic, refilled, Meaning}
 use Rattle.rules.specs.History.{after, heard, past}
 use Rattle.rules.specs.Stays.{stays}
 use Rattle.rules.proofs.Tests.{clash, no-some, cases}
-use Rattle.rules.proofs.Named.{named-says, is-named, named-itself, on-card-says, is-on-card}
-use Rattle.rules.proofs.Lists.{all-imp, all-both, all-among, keeps-none, only-one}
+use Rattle.rules.proofs.Named.{named-says, is-named, named-itself, on-card-says, is-on-card, found, find-there}
+use Rattle.rules.proofs.Lists.{all-imp, all-both, keeps-none, only-one, count-among}
 use Rattle.rules.proofs.Choice.{chosen, idle, nobody, only, is-ready}
 use Rattle.rules.proofs.Timer.{in-idle, no-return, while-running}
 use Rattle.rules.proofs.Queue.{total, Rising}
 use Rattle.rules.proofs.ThreeKinds.{one-of-three, by-kind}
 use Rattle.rules.proofs.Sound.{Sound}
 use Rattle.rules.proofs.Accepted.{passed, Settled, runs-on-card}
+use Rattle.rules.proofs.Memory.{Memory, time-of}
 use Rattle.rules.proofs.Reached.{Reached, reached, card-refused, card-accepted}
 
 time-high : (calls : List Call) → after calls .last ≤ largestTime
@@ -53,26 +55,6 @@ unready v f = go (v .runnable) refl
     go : (b : Bool) → v .runnable ≡ b → b && ltb 0 (v .usable) ≡ false
     go true e = rw (f e)
     go false e = refl
-
-found : (t : ℕ) (vs : List Vcpu) (v : Vcpu) → find t vs ≡ some v → Among v vs × (named t v ≡ true)
-found t [] v e = no-some e
-found t (w ∷ vs) v e = go (named t w) refl e (λ f. found t vs v f)
-  where
-    go : (b : Bool) → named t w ≡ b → cond b (some w) (find t vs) ≡ some v → (find t vs ≡ some v → Among v vs × (named t v ≡ true))
-        → Among v (w ∷ vs) × (named t v ≡ true)
-    go true n f ih =
-        let q : w ≡ v = cc in
-        (inl (sym q), subst (λ (x : Vcpu). named t x ≡ true) q n)
-    go false n f ih = (inr (ih f .0), ih f .1)
-
-not-found : (t : ℕ) (vs : List Vcpu) → find t vs ≡ none → All (λ w. named t w ≡ false) vs
-not-found t [] e = tt
-not-found t (w ∷ vs) e = go (named t w) refl e (λ f. not-found t vs f)
-  where
-    go : (b : Bool) → named t w ≡ b → cond b (some w) (find t vs) ≡ none → (find t vs ≡ none → All (λ w. named t w ≡ false) vs)
-        → All (λ w. named t w ≡ false) (w ∷ vs)
-    go true n f ih = no-some (sym f)
-    go false n f ih = (n, ih f)
 
 pub rising-all : (low high : ℕ) (q : List Entry) → Rising low high q → All (λ e. low ≤ e .due) q
 rising-all low high [] r = tt
@@ -163,17 +145,6 @@ module _ (c : Card) (s : Settled c) (once : (t : ℕ) → count (named t) (c .vc
   find-says : (t : ℕ) (v : Vcpu) → find t (c .vcpus) ≡ some v → Among v (c .vcpus) × (v .terms .tunnel ≡ t)
   find-says t v e = let p = found t (c .vcpus) v e in (p .0, named-says t v (p .1))
 
-  find-there : (t : ℕ) (v : Vcpu) → Among v (c .vcpus) → v .terms .tunnel ≡ t → find t (c .vcpus) ≡ some v
-  find-there t v m e = go (find t (c .vcpus)) refl
-    where
-      go : (o : Option Vcpu) → find t (c .vcpus) ≡ o → find t (c .vcpus) ≡ some v
-      go none f =
-          clash
-          (sym (is-named t v e) ∙ all-among (λ w. named t w ≡ false) (c .vcpus) (not-found t (c .vcpus) f) v m)
-      go (some w) f =
-          let p = found t (c .vcpus) w f in
-          f ∙ ap some (same-one w v (p .0) m (named-says t w (p .1) ∙ sym e))
-
 pub meaning : (calls : List Call) → Meaning (after calls)
 meaning calls =
     let c = after calls in
@@ -186,7 +157,7 @@ meaning calls =
       runs-on-card = runs-on-card (after calls) s;
       once = o;
       on-card = λ t. (on-card-says (after calls .vcpus) t, is-on-card (after calls .vcpus) t);
-      finds = λ t v. (find-says (after calls) s o k t v, λ p. find-there (after calls) s o k t v (p .0) (p .1));
+      finds = λ t v. (find-says (after calls) s o k t v, λ p. find-there t (after calls .vcpus) (o t) v (p .0) (p .1));
       reports = λ v f. ap usableOf (only (after calls .vcpus) o v f);
       reports-card = (refl, refl, refl);
       reports-idle = λ e. ap usableOf (idle-chosen (after calls) s o k e);
@@ -201,6 +172,16 @@ meaning calls =
       few-vcpus = r .lawful .few;
       in-range = all-imp (λ v q. q .range) (after calls .vcpus) k;
       few-pending = all-imp (λ v q. q .few) (after calls .vcpus) k;
+      never-both = λ t time p v. omega (
+        arith,
+        w .apart t,
+        count-among (named t) (after calls .vcpus) (v .0) (v .1) (is-named t (v .0) (v .2)),
+        count-among (remembers t) (after calls .remembered) (p .0) (p .1) (eq-eqb (p .0 .tunnel) t (p .2)),
+      );
+      remembered-once = remembered-once;
+      few-together = w .few;
+      time-of = λ t. time-of t (after calls .remembered) (remembered-once t);
+      remembered-range = w .range;
     }
   where
     r : Reached (after calls) (stays (heard calls)) (past (heard calls))
@@ -214,3 +195,9 @@ meaning calls =
 
     k : All (Sound (after calls .last)) (after calls .vcpus)
     k = r .lawful .sound
+
+    w : Memory (after calls .last) (after calls .vcpus) (after calls .remembered)
+    w = r .memory
+
+    remembered-once : (t : ℕ) → count (remembers t) (after calls .remembered) ≤ 1
+    remembered-once t = omega (arith, w .apart t)

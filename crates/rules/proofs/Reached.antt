@@ -8,10 +8,11 @@ use Prim.Native.Nat.{ℕ, _+_, _-_, _≤_}
 use native.Mathlib.Omega.{arith}
 use Rattle.rules.specs.Lists.{count, All}
 use Rattle.rules.specs.Vcpu.{Vcpu, named}
+use Rattle.rules.specs.Remember.{Remembered, kept}
 use Rattle.rules.specs.Card.{Card, empty}
 use Rattle.rules.specs.Timer.{timer}
 use Rattle.rules.specs.Refuse.{Refusal, refusal}
-use Rattle.rules.specs.Turn.{Call, ok, refused, report, turn, settled, accepted, afterReturn, afterChange}
+use Rattle.rules.specs.Turn.{Call, ok, refused, report, turn, settled, accepted, afterReturn, afterChange, rememberedThen}
 use Rattle.rules.specs.History.{after, heard, time, holder, past, ticks, holds}
 use Rattle.rules.specs.Stays.{Stay, stays, changeStays}
 use Rattle.rules.proofs.Named.{is-named}
@@ -20,10 +21,12 @@ use Rattle.rules.proofs.Accepted.{Passed, passed, Settled, in-time, run
 use Rattle.rules.proofs.Lawful.{Lawful}
 use Rattle.rules.proofs.Advance.{rows-stepped, advance}
 use Rattle.rules.proofs.Changed.{changed}
+use Rattle.rules.proofs.Memory.{Memory, memory-later, memory-changed}
 
 pub record Reached (c : Card) (ss : List Stay) (h : List (Option ℕ)) : Type 0 where
   pub settled : Settled c
   pub lawful : Lawful (c .last) (c .vcpus) ss h
+  pub memory : Memory (c .last) (c .vcpus) (c .remembered)
 
 -- a call that is refused hands the card back, one that is accepted does its five steps
 
@@ -45,9 +48,10 @@ unfolding turn
 card-accepted c call e = rw e
 
 -- after the change, at `now`, choose and timer settle the card
-settles : (now : ℕ) (vs : List Vcpu) (ss : List Stay) (h : List (Option ℕ)) → Lawful now vs ss h → Reached (settled now vs) ss h
+settles : (now : ℕ) (vs : List Vcpu) (rs : List Remembered) (ss : List Stay) (h : List (Option ℕ)) → Lawful now vs ss h → Memory now vs rs
+    → Reached (settled now vs rs) ss h
 unfolding settled
-settles now vs ss h l = record { settled = record { runs-chosen = refl; timer-set = refl }; lawful = l }
+settles now vs rs ss h l m = record { settled = record { runs-chosen = refl; timer-set = refl }; lawful = l; memory = m }
 
 -- the history tells the time of the card, and who runs
 pub told-by-card : (calls : List Call) → (time (heard calls) ≡ after calls .last) × (holder (heard calls) ≡ after calls .running)
@@ -76,6 +80,7 @@ start =
         bounded = tt;
         owned = tt;
       };
+      memory = record { apart = λ t. omega arith; few = omega arith; range = tt };
     }
 
 -- an accepted call comes in time and by the boundary of the one that runs, and who runs is on the card
@@ -108,9 +113,12 @@ next : (c : Card) (ss : List Stay) (h : List (Option ℕ)) (call : Call) → Rea
     → Reached (accepted c call) (changeStays (call .now) (call .asked) ss) (ticks (call .now - c .last) (c .running) h)
 next c ss h call r e =
     let p = passed c (call .now) (call .asked) e in
-    settles (call .now) (afterChange c call) _ _
-    (changed (call .now) (afterReturn c (call .now)) ss (ticks (call .now - c .last) (c .running) h)
-    (returned-lawful c ss h call r p) (call .asked) (rows-stepped c (call .now) (call .asked) ∙ p .asked-for))
+    let l = returned-lawful c ss h call r p in
+    let a = rows-stepped c (call .now) (kept (call .now) (c .remembered)) (call .asked) ∙ p .asked-for in
+    settles (call .now) (afterChange c call) (rememberedThen c call) _ _
+    (changed (call .now) (afterReturn c (call .now)) ss (ticks (call .now - c .last) (c .running) h) l _ (call .asked) a)
+    (memory-changed (call .now) (afterReturn c (call .now)) (kept (call .now) (c .remembered)) (l .sound)
+    (memory-later c (call .now) (p .not-before) (r .memory)) (call .asked) a)
 
 pub reached : (calls : List Call) → Reached (after calls) (stays (heard calls)) (past (heard calls))
 unfolding settled

@@ -10,6 +10,7 @@ use native.Mathlib.Omega.{arith}
 use lib.ListN.{length}
 use Rattle.rules.specs.Lists.{All, Among}
 use Rattle.rules.specs.Vcpu.{Description, Vcpu, admitted, named}
+use Rattle.rules.specs.Remember.{Remembered, kept}
 use Rattle.rules.specs.Card.{Card}
 use Rattle.rules.specs.Change.{Change, admit, wake, block, remove, tick, placed, change}
 use Rattle.rules.specs.Refuse.{Refusal, callRows, refusal}
@@ -46,11 +47,11 @@ abbrev Each : (Stay → Vcpu → Bool) → ℕ → List Vcpu → List (Option �
 Each has now vs h s = (s .terms .kind ≡ 0 → ⊥) → Fills (has s) now vs h s
 
 -- step 3
-module _ (now : ℕ) (vs : List Vcpu) (ss : List Stay) (h : List (Option ℕ)) (l : Lawful now vs ss h) (has : Stay → Bool) (asked : Change)
-    (e : callRows vs asked ≡ none) where
+module _ (now : ℕ) (vs : List Vcpu) (rs : List Remembered) (ss : List Stay) (h : List (Option ℕ)) (l : Lawful now vs ss h)
+    (has : Stay → Bool) (asked : Change) (e : callRows vs rs asked ≡ none) where
   not-admitted : (s : Stay) → Among s ss → lasts (s .until) ≡ true → AdmitOf asked (s .terms .tunnel) → ⊥
   not-admitted s m u (d, a, t) =
-      no-stay-so-named now vs ss h l d (admits vs d (subst (λ (x : Change). callRows vs x ≡ none) a e)) s m u (sym t)
+      no-stay-so-named now vs ss h l rs d (admits vs rs d (subst (λ (x : Change). callRows vs rs x ≡ none) a e)) s m u (sym t)
 
   -- a stay that was there, and the VCPUs after the change
   goes-on : (s : Stay) → Among s ss → Each (λ s v. has s) now vs h s → Each (λ s w. has s && w .runnable) now (change now asked vs) h s
@@ -75,7 +76,7 @@ module _ (now : ℕ) (vs : List Vcpu) (ss : List Stay) (h : List (Option ℕ)) (
   all-go-on : All (Each (λ s v. has s) now vs h) ss → All (Each (λ s w. has s && w .runnable) now (change now asked vs) h) ss
   all-go-on a = among-all _ ss (λ s m. goes-on s m (all-among (Each (λ s v. has s) now vs h) ss a s m))
 
-  begun : (d : Description) → Admits vs d → let s : Stay = record { terms = d; from = now; until = none } in
+  begun : (d : Description) → Admits vs rs d → let s : Stay = record { terms = d; from = now; until = none } in
       Each (λ s w. has s && w .runnable) now (placed (admitted now d) vs) h s
   begun d a kind =
       record {
@@ -107,19 +108,19 @@ module _ (now : ℕ) (vs : List Vcpu) (ss : List Stay) (h : List (Option ℕ)) (
             filled = λ u. clash (sym u ∙ ap (λ (b : Bool). lasts (cond b (some now) (s .until))) f);
           }
 
-changed-fills : (now : ℕ) (vs : List Vcpu) (ss : List Stay) (h : List (Option ℕ)) → Lawful now vs ss h → (has : Stay → Bool)
-    → (asked : Change) → callRows vs asked ≡ none → All (Each (λ s v. has s) now vs h) ss
+changed-fills : (now : ℕ) (vs : List Vcpu) (rs : List Remembered) (ss : List Stay) (h : List (Option ℕ)) → Lawful now vs ss h
+    → (has : Stay → Bool) (asked : Change) → callRows vs rs asked ≡ none → All (Each (λ s v. has s) now vs h) ss
     → All (Each (λ s w. has s && w .runnable) now (change now asked vs) h) (changeStays now asked ss)
-changed-fills now vs ss h l has asked e a = go asked e (all-go-on now vs ss h l has asked e a)
+changed-fills now vs rs ss h l has asked e a = go asked e (all-go-on now vs rs ss h l has asked e a)
   where
-    go : (asked : Change) → callRows vs asked ≡ none → All (Each (λ s w. has s && w .runnable) now (change now asked vs) h) ss
+    go : (asked : Change) → callRows vs rs asked ≡ none → All (Each (λ s w. has s && w .runnable) now (change now asked vs) h) ss
         → All (Each (λ s w. has s && w .runnable) now (change now asked vs) h) (changeStays now asked ss)
-    go (admit d) e b = (begun now vs ss h l has (admit d) e d (admits vs d e), b)
+    go (admit d) e b = (begun now vs rs ss h l has (admit d) e d (admits vs rs d e), b)
     go (wake t) e b = b
     go (block t) e b = b
     go (remove t) e b =
         all-map (Each (λ s w. has s && w .runnable) now (change now (remove t) vs) h) (withEnd now t)
-        (ended now vs ss h l has (remove t) e t) ss b
+        (ended now vs rs ss h l has (remove t) e t) ss b
     go tick e b = b
 
 -- who is runnable is told by the history
@@ -267,8 +268,9 @@ module _ (call : Call) (calls : List Call) (e : refusal (after calls) (call .now
   accepted-fills a b =
       told-fills (call .now) (afterChange c call) (changeStays (call .now) (call .asked) ss) (ticks n (c .running) h) (hasThen (call .now))
       (λ t. runnableAfter (call .asked) t (isRunnable xs t)) b
-      (changed-fills (call .now) (afterReturn c (call .now)) ss (ticks n (c .running) h) (returned-lawful c ss h call r p)
-      (hasThen (call .now)) (call .asked) (rows-stepped c (call .now) (call .asked) ∙ p .asked-for) (returned-fills a))
+      (changed-fills (call .now) (afterReturn c (call .now)) _ ss (ticks n (c .running) h) (returned-lawful c ss h call r p)
+      (hasThen (call .now)) (call .asked) (rows-stepped c (call .now) (kept (call .now) (c .remembered)) (call .asked) ∙ p .asked-for)
+      (returned-fills a))
 
 fills : (calls : List Call)
     → All (Each (λ s v. hasRefill s (heard calls)) (after calls .last) (after calls .vcpus) (past (heard calls))) (stays (heard calls))
@@ -287,6 +289,15 @@ fills (call ∷ calls) = go (refusal (after calls) (call .now) (call .asked)) re
     go none e ih =
         rw (reply-accepted (after calls) call e, card-accepted (after calls) call e, told-by-card calls .0, told-by-card calls .1)
         (accepted-fills call calls e ih)
+
+-- the next boundary of the VCPU of a stay that lasts, after steps 1 and 2 of an accepted call
+pub returned-boundary : (call : Call) (calls : List Call) → refusal (after calls) (call .now) (call .asked) ≡ none → (s : Stay)
+    → Among s (stays (heard calls)) → lasts (s .until) ≡ true → (v : Vcpu) → Among v (afterReturn (after calls) (call .now))
+    → v .terms .tunnel ≡ s .terms .tunnel → Refills s → v .boundary ≡ some (latest s (call .now) + s .terms .period)
+returned-boundary call calls e s m u v i t kind =
+    let f = all-among (Each _ (call .now) (afterReturn (after calls) (call .now)) _) (stays (heard calls))
+    (returned-fills call calls e (fills calls)) s m kind in
+    all-among _ (afterReturn (after calls) (call .now)) (f .filled u) v i t .next
 
 -- the sentences of demand 3
 module _ (calls : List Call) where

@@ -1,11 +1,12 @@
 -- The reply table: the reply is refused with a row's number and detail exactly when that row is the first that applies, and accepted
--- exactly when none does; and the list of the rows has each of them once. Of every card and every call. Assumes nothing.
+-- exactly when none does; and the list of the rows has each of them once. Of every call, and of every card on which no identifier is
+-- remembered twice, so of every one that calls make. Assumes nothing.
 use mathlib.Core.Path.{_≡_, refl, ap, sym, _∙_, subst}
 use mathlib.Core.Bool.{Bool, true, false}
 use mathlib.Core.List.{List, [], _∷_}
 use mathlib.Core.Logic.{_⊎_, inl, inr, ⊎-elim}
 use mathlib.Core.Option.{Option, none, some}
-use Prim.Native.Nat.{ℕ, _≤_, _<_}
+use Prim.Native.Nat.{ℕ, _+_, _≤_, _<_}
 use native.Mathlib.Omega.{arith}
 use lib.Dec.{leb, ltb, eqb}
 use lib.ListN.{length}
@@ -13,19 +14,23 @@ use borrow.Author.Tests.{leb-false, eq-eqb, eqb-true, not-true, not-false}
 use Rattle.rules.specs.Limits.{largestTime, largestTunnel, largestPeriod, largestKind, mostVcpus, inRange}
 use Rattle.rules.specs.Lists.{any, count, Among}
 use Rattle.rules.specs.Vcpu.{Description}
+use Rattle.rules.specs.Remember.{Remembered, isKept, kept, remembers, timeOf}
 use Rattle.rules.specs.Card.{Card, onCard}
 use Rattle.rules.specs.Change.{Change, admit, wake, block, remove, tick}
-use Rattle.rules.specs.Refuse.{Refusal, row, aboveLargest, belowLast, isLate, rowLate, above24Bits, admitRows, namingRows}
-use Rattle.rules.specs.Refuse.{callRows, refusal}
+use Rattle.rules.specs.Refuse.{Refusal, row, aboveLargest, belowLast, isLate, rowLate, above24Bits, rowRemembered}
+use Rattle.rules.specs.Refuse.{admitRows, namingRows, callRows, refusal}
 use Rattle.rules.specs.Turn.{Call, ok, refused, turn, accepted, answered, report, settled}
-use Rattle.rules.specs.Meaning.{Sporadic, Deferrable, Polling, OnTheCard}
+use Rattle.rules.specs.History.{after}
+use Rattle.rules.specs.Meaning.{Sporadic, Deferrable, Polling, OnTheCard, RememberedWith}
 use Rattle.rules.specs.Rows.{AdmitOf, WakeBlockRemoveOf, Row, row-1, row-2, row-3, row-4, row-5, row-6, row-7, row-8}
-use Rattle.rules.specs.Rows.{row-10, row-11, row-12, order, Higher, First, NoRow, Table}
+use Rattle.rules.specs.Rows.{row-9, row-10, row-11, row-12, order, Higher, First, NoRow, Table}
 use Rattle.rules.proofs.Tests.{tests, clash, no-some, and-false}
-use Rattle.rules.proofs.Lists.{all-among, any-one, count-among}
-use Rattle.rules.proofs.Named.{on-card-says, is-on-card}
+use Rattle.rules.proofs.Lists.{all-among, any-one, count-among, length-kept}
+use Rattle.rules.proofs.Named.{on-card-says, is-on-card, kept-says, is-kept}
 use Rattle.rules.proofs.ThreeKinds.{one-of-three}
 use Rattle.rules.proofs.Accepted.{range-says}
+use Rattle.rules.proofs.Memory.{none-of, recalled, time-of}
+use Rattle.rules.proofs.Meaning.{meaning}
 
 -- what a call names, and what an admit carries
 
@@ -123,6 +128,7 @@ module _ (c : Card) (call : Call) where
   all-there n d (row-12 t e h) = listed 12 refl
   all-there n d (row-10 t e f g h) = listed 10 refl
   all-there n d (row-6 t e h) = listed 6 refl
+  all-there n d (row-9 t u e f h) = listed 9 refl
   all-there n d (row-7 t e h) = listed 7 refl
   all-there n d (row-8 t e h) = listed 8 refl
 
@@ -133,7 +139,7 @@ module _ (c : Card) (call : Call) where
 
   -- those below the rows of the time
   abbrev callOrder : List ℕ
-  callOrder = 4 ∷ 5 ∷ 11 ∷ 12 ∷ 10 ∷ 6 ∷ 7 ∷ 8 ∷ []
+  callOrder = 4 ∷ 5 ∷ 11 ∷ 12 ∷ 10 ∷ 6 ∷ 9 ∷ 7 ∷ 8 ∷ []
 
   abbrev Not : ℕ → Type 0
   Not number = (d : ℕ) → Row c call number d → ⊥
@@ -205,17 +211,27 @@ module _ (c : Card) (call : Call) where
   of-6 : (d : ℕ) → Row c call 6 d → Admitting (λ t. OnTheCard (c .vcpus) (t .tunnel))
   of-6 d (row-6 t e h) = (t, ap termsOf e, h)
 
-  of-8 : (d : ℕ) → Row c call 8 d → Admitting (λ t. mostVcpus ≤ length (c .vcpus))
+  of-9 : (d : ℕ) → Row c call 9 d → Admitting (λ t. RememberedWith (c .remembered) (t .tunnel) d × (call .now < d))
+  of-9 d (row-9 t u e f h) = (t, ap termsOf e, (f, h))
+
+  -- those remembered at the call's time, as the rules keep them
+  abbrev still : List Remembered
+  still = kept (call .now) (c .remembered)
+
+  abbrev together : ℕ
+  together = length (c .vcpus) + count (λ r. ltb (call .now) (r .time)) (c .remembered)
+
+  of-8 : (d : ℕ) → Row c call 8 d → Admitting (λ t. mostVcpus ≤ together)
   of-8 d (row-8 t e h) = (t, ap termsOf e, h)
 
-  -- rows 5, 11, 12, 10, 6 and 8 are an admit's: another call passes the first five, which stand together, and the last
+  -- rows 5, 11, 12, 10, 6, 9 and 8 are an admit's: another call passes the first six, which stand together, and the last
   no-admit : termsOf (call .asked) ≡ none → {P : Description → Type 0} → Admitting P → ⊥
   no-admit f p = no-some (sym f ∙ p .1)
 
-  others-pass : termsOf (call .asked) ≡ none → (rest : List ℕ) → Left (5 ∷ 11 ∷ 12 ∷ 10 ∷ 6 ∷ rest) → Left rest
+  others-pass : termsOf (call .asked) ≡ none → (rest : List ℕ) → Left (5 ∷ 11 ∷ 12 ∷ 10 ∷ 6 ∷ 9 ∷ rest) → Left rest
   others-pass f rest a =
-      skip 6 _ (λ d r. no-admit f (of-6 d r)) (skip 10 _ (λ d r. no-admit f (of-10 d r)) (skip 12 _ (λ d r. no-admit f (of-12 d r))
-      (skip 11 _ (λ d r. no-admit f (of-11 d r)) (skip 5 _ (λ d r. no-admit f (of-5 d r)) a))))
+      skip 9 _ (λ d r. no-admit f (of-9 d r)) (skip 6 _ (λ d r. no-admit f (of-6 d r)) (skip 10 _ (λ d r. no-admit f (of-10 d r))
+      (skip 12 _ (λ d r. no-admit f (of-12 d r)) (skip 11 _ (λ d r. no-admit f (of-11 d r)) (skip 5 _ (λ d r. no-admit f (of-5 d r)) a)))))
 
   late : (o : Option Refusal) (u : Option ℕ) → c .timer ≡ u → (below : Option Refusal) (rest : List ℕ)
       → rowLate u (call .now) below ≡ o → (below ≡ o → Left rest → Says o) → Left (3 ∷ rest) → Says o
@@ -231,7 +247,7 @@ module _ (c : Card) (call : Call) where
       let q : t ≡ p .0 = same (tunnelOf (call .asked)) t (p .0) (names (call .asked) t n) (p .1) in
       omega (arith, p .2)
 
-  admitting : (o : Option Refusal) (d : Description) → call .asked ≡ admit d → admitRows (c .vcpus) d ≡ o → Left callOrder → Says o
+  admitting : (o : Option Refusal) (d : Description) → call .asked ≡ admit d → admitRows (c .vcpus) still d ≡ o → Left callOrder → Says o
   admitting o d e w a =
       step o (above24Bits (d .tunnel)) 4 0 _ _ w (λ f. row-4 (d .tunnel) (inl (d, e, refl)) (omega (arith, tests)))
       (λ f n r. omega (arith, tests, high (d .tunnel) (inl (d, e, refl)) n r))
@@ -245,8 +261,11 @@ module _ (c : Card) (call : Call) where
       (λ f. row-10 d e (λ k. omega (arith, tests)) (λ k. omega (arith, tests)) (λ k. omega (arith, tests)))
       (λ f n r. known (omega (arith, tests)) n r)
       (λ w. step o _ 6 0 _ _ w (λ f. row-6 d e (on-card-says (c .vcpus) (d .tunnel) f)) (λ f n r. clash (sym (there n r) ∙ f))
-      (λ w b. step o (leb mostVcpus (length (c .vcpus))) 8 0 _ _ w (λ f. row-8 d e (omega (arith, tests)))
-      (λ f n r. omega (arith, tests, of-8 n r .2)) (λ w k. subst Says w (bottom k)) (skip 7 _ not-7 b))))))) a
+      (λ w. coming-back (timeOf (d .tunnel) still) refl _ _ w
+      (λ w b. step o (leb mostVcpus (length (c .vcpus) + length still)) 8 0 _ _ w
+      (λ f. row-8 d e (omega (arith, tests, length-kept (isKept (call .now)) (c .remembered))))
+      (λ f n r. omega (arith, tests, length-kept (isKept (call .now)) (c .remembered), of-8 n r .2))
+      (λ w k. subst Says w (bottom k)) (skip 7 _ not-7 b)))))))) a
     where
       its : (P : Description → Type 0) → Admitting P → P d
       its P p = subst P (same (termsOf (call .asked)) (p .0) d (p .1) (ap termsOf e)) (p .2)
@@ -258,6 +277,21 @@ module _ (c : Card) (call : Call) where
 
       there : (n : ℕ) → Row c call 6 n → onCard (d .tunnel) (c .vcpus) ≡ true
       there n r = is-on-card (c .vcpus) (d .tunnel) (its _ (of-6 n r))
+
+      -- "identifier is remembered, with that time as the detail"
+      coming-back : (u : Option ℕ) → timeOf (d .tunnel) still ≡ u → (below : Option Refusal) (rest : List ℕ) → rowRemembered u below ≡ o
+          → (below ≡ o → Left rest → Says o) → Left (9 ∷ rest) → Says o
+      coming-back none f below rest w next a =
+          next w (skip 9 rest (λ n r. let p = its _ (of-9 n r) in
+          let k = is-kept (call .now) (d .tunnel) n (c .remembered) (p .0) (p .1) in
+          omega (
+            arith,
+            none-of (d .tunnel) still f,
+            count-among (remembers (d .tunnel)) still (k .0) (k .1) (eq-eqb (k .0 .tunnel) (d .tunnel) (k .2)),
+          )) a)
+      coming-back (some t) f below rest w next a =
+          let p = kept-says (call .now) (d .tunnel) t (c .remembered) (recalled (d .tunnel) still t f) in
+          step o true 9 t below rest w (λ z. row-9 d t e (p .0) (p .1)) (λ z. clash z) next a
 
       not-7 : Not 7
       not-7 n r = no-some (sym (of-7 n r .2) ∙ ap termsOf e)
@@ -278,7 +312,7 @@ module _ (c : Card) (call : Call) where
           p .3 (subst (λ (x : ℕ). OnTheCard (c .vcpus) x)
           (same (tunnelOf (call .asked)) t (p .0) (others-name (call .asked) t i .0) (p .1)) k)
 
-  asks : (o : Option Refusal) (a : Change) → call .asked ≡ a → callRows (c .vcpus) a ≡ o → Left callOrder → Says o
+  asks : (o : Option Refusal) (a : Change) → call .asked ≡ a → callRows (c .vcpus) still a ≡ o → Left callOrder → Says o
   asks o (admit d) e = admitting o d e
   asks o (wake t) e = naming o t (inl e)
   asks o (block t) e = naming o t (inr (inl e))
@@ -297,41 +331,7 @@ module _ (c : Card) (call : Call) where
       step o (aboveLargest (call .now)) 1 0 _ _ w (λ f. row-1 (omega (arith, tests))) (λ f d r. omega (arith, tests, of-1 d r))
       (λ w. step o (belowLast (c .last) (call .now)) 2 0 _ _ w (λ f. row-2 (omega (arith, tests)))
       (λ f d r. omega (arith, tests, of-2 d r))
-      (λ w. late o (c .timer) refl (callRows (c .vcpus) (call .asked)) _ w (asks o (call .asked) refl))) top
-
-  one-detail : (n d e : ℕ) → Row c call n d → Row c call n e → d ≡ e
-  one-detail n d e (row-1 h) (row-1 k) = refl
-  one-detail n d e (row-2 h) (row-2 k) = refl
-  one-detail n d e (row-3 t f h) (row-3 u g k) = same (c .timer) t u f g
-  one-detail n d e (row-4 t f h) (row-4 u g k) = refl
-  one-detail n d e (row-5 t f h) (row-5 u g k) = refl
-  one-detail n d e (row-11 t f h) (row-11 u g k) = refl
-  one-detail n d e (row-12 t f h) (row-12 u g k) = refl
-  one-detail n d e (row-10 t f h i j) (row-10 u g k l m) = refl
-  one-detail n d e (row-6 t f h) (row-6 u g k) = refl
-  one-detail n d e (row-7 t f h) (row-7 u g k) = refl
-  one-detail n d e (row-8 t f h) (row-8 u g k) = refl
-
-  -- of two that are first neither is above the other
-  one-first : (n d m e : ℕ) → First c call n d → First c call m e → (n ≡ m) × (d ≡ e)
-  one-first n d m e f g =
-      let q : n ≡ m = ⊎-elim (λ p. p) above (either n m order (all-there n d (f .applies)) (all-there m e (g .applies))) in
-      (q, one-detail m d e (subst (λ (k : ℕ). Row c call k d) q (f .applies)) (g .applies))
-    where
-      above : Higher n m order ⊎ Higher m n order → n ≡ m
-      above (inl h) = absurd (g .none-above n d h (f .applies))
-      above (inr h) = absurd (f .none-above m e h (g .applies))
-
-  given : (n d : ℕ) → First c call n d → refusal c (call .now) (call .asked) ≡ some (record { number = n; detail = d })
-  given n d f = go (refusal c (call .now) (call .asked)) refl
-    where
-      go : (o : Option Refusal) → refusal c (call .now) (call .asked) ≡ o
-          → refusal c (call .now) (call .asked) ≡ some (record { number = n; detail = d })
-      go none e = absurd (says none e n d (f .applies))
-      go (some r) e =
-          let p = one-first (r .number) (r .detail) n d (says (some r) e) f in
-          e ∙ ap some (ap (λ (k : ℕ). record { number = k; detail = r .detail }) (p .0)
-          ∙ ap (λ (k : ℕ). record { number = n; detail = k }) (p .1))
+      (λ w. late o (c .timer) refl (callRows (c .vcpus) still (call .asked)) _ w (asks o (call .asked) refl))) top
 
   pub not-given : NoRow c call → refusal c (call .now) (call .asked) ≡ none
   not-given h = go (refusal c (call .now) (call .asked)) refl
@@ -340,35 +340,85 @@ module _ (c : Card) (call : Call) where
       go none e = e
       go (some r) e = absurd (h (r .number) (r .detail) (says (some r) e .applies))
 
-  pub table : Table c call
-  unfolding turn settled
-  table =
-      record {
-        refuses = λ n d. (
-          reads (refusal c (call .now) (call .asked)) (says _ refl) n d,
-          λ f. ap
-              (λ (o : Option Refusal). answered c call o .reply) (given n d f),
-        );
-        hands-back = back (refusal c (call .now) (call .asked));
-        accepts = (
-          passes (refusal c (call .now) (call .asked)) (says _ refl),
-          λ h. ap (λ (o : Option Refusal). answered c call o .reply) (not-given h),
-        );
-        hands-on = λ h. ap (λ (o : Option Refusal). answered c call o .card) (not-given h);
-        at-now = λ h. ap (λ (o : Option Refusal). answered c call o .card .last) (not-given h);
-      }
-    where
-      reads : (o : Option Refusal) → Says o → (n d : ℕ) → answered c call o .reply ≡ refused (record { number = n; detail = d })
-          → First c call n d
-      reads none s n d e = let z : _≡_ {A = ℕ} 0 1 = cc in absurd (omega arith)
-      reads (some r) s n d e =
-          let q : r ≡ record { number = n; detail = d } = cc in
-          subst (λ (x : Refusal). First c call (x .number) (x .detail)) q s
+  -- row 9 has one detail where no identifier is remembered twice
+  module _ (once : (tunnel : ℕ) → count (λ r. eqb (r .tunnel) tunnel) (c .remembered) ≤ 1) where
+    one-detail : (n d e : ℕ) → Row c call n d → Row c call n e → d ≡ e
+    one-detail n d e (row-1 h) (row-1 k) = refl
+    one-detail n d e (row-2 h) (row-2 k) = refl
+    one-detail n d e (row-3 t f h) (row-3 u g k) = same (c .timer) t u f g
+    one-detail n d e (row-4 t f h) (row-4 u g k) = refl
+    one-detail n d e (row-5 t f h) (row-5 u g k) = refl
+    one-detail n d e (row-11 t f h) (row-11 u g k) = refl
+    one-detail n d e (row-12 t f h) (row-12 u g k) = refl
+    one-detail n d e (row-10 t f h i j) (row-10 u g k l m) = refl
+    one-detail n d e (row-6 t f h) (row-6 u g k) = refl
+    one-detail n d e (row-9 t a f h i) (row-9 u b g k l) =
+        let one = time-of (t .tunnel) (c .remembered) (once (t .tunnel)) in
+        same (timeOf (t .tunnel) (c .remembered)) a b (one a .1 h)
+        (one b .1 (subst (λ (x : Description). RememberedWith (c .remembered) (x .tunnel) b)
+        (same (termsOf (call .asked)) u t (ap termsOf g) (ap termsOf f)) k))
+    one-detail n d e (row-7 t f h) (row-7 u g k) = refl
+    one-detail n d e (row-8 t f h) (row-8 u g k) = refl
 
-      back : (o : Option Refusal) (r : Refusal) → answered c call o .reply ≡ refused r → answered c call o .card ≡ c
-      back none r e = let z : _≡_ {A = ℕ} 0 1 = cc in absurd (omega arith)
-      back (some q) r e = refl
+    -- of two that are first neither is above the other
+    one-first : (n d m e : ℕ) → First c call n d → First c call m e → (n ≡ m) × (d ≡ e)
+    one-first n d m e f g =
+        let q : n ≡ m = ⊎-elim (λ p. p) above (either n m order (all-there n d (f .applies)) (all-there m e (g .applies))) in
+        (q, one-detail m d e (subst (λ (k : ℕ). Row c call k d) q (f .applies)) (g .applies))
+      where
+        above : Higher n m order ⊎ Higher m n order → n ≡ m
+        above (inl h) = absurd (g .none-above n d h (f .applies))
+        above (inr h) = absurd (f .none-above m e h (g .applies))
 
-      passes : (o : Option Refusal) → Says o → answered c call o .reply ≡ ok (report (accepted c call)) → NoRow c call
-      passes none s e = s
-      passes (some r) s e = let z : _≡_ {A = ℕ} 0 1 = cc in absurd (omega arith)
+    given : (n d : ℕ) → First c call n d → refusal c (call .now) (call .asked) ≡ some (record { number = n; detail = d })
+    given n d f = go (refusal c (call .now) (call .asked)) refl
+      where
+        go : (o : Option Refusal) → refusal c (call .now) (call .asked) ≡ o
+            → refusal c (call .now) (call .asked) ≡ some (record { number = n; detail = d })
+        go none e = absurd (says none e n d (f .applies))
+        go (some r) e =
+            let p = one-first (r .number) (r .detail) n d (says (some r) e) f in
+            e ∙ ap some (ap (λ (k : ℕ). record { number = k; detail = r .detail }) (p .0)
+            ∙ ap (λ (k : ℕ). record { number = n; detail = k }) (p .1))
+
+    pub table : Table c call
+    unfolding turn settled
+    table =
+        record {
+          refuses = λ n d. (
+            reads (refusal c (call .now) (call .asked)) (says _ refl) n d,
+            λ f. ap
+                (λ (o : Option Refusal). answered c call o .reply) (given n d f),
+          );
+          hands-back = back (refusal c (call .now) (call .asked));
+          accepts = (
+            passes (refusal c (call .now) (call .asked)) (says _ refl),
+            λ h. ap (λ (o : Option Refusal). answered c call o .reply) (not-given h),
+          );
+          hands-on = λ h. ap (λ (o : Option Refusal). answered c call o .card) (not-given h);
+          at-now = λ h. ap (λ (o : Option Refusal). answered c call o .card .last) (not-given h);
+        }
+      where
+        reads : (o : Option Refusal) → Says o → (n d : ℕ) → answered c call o .reply ≡ refused (record { number = n; detail = d })
+            → First c call n d
+        reads none s n d e = let z : _≡_ {A = ℕ} 0 1 = cc in absurd (omega arith)
+        reads (some r) s n d e =
+            let q : r ≡ record { number = n; detail = d } = cc in
+            subst (λ (x : Refusal). First c call (x .number) (x .detail)) q s
+
+        back : (o : Option Refusal) (r : Refusal) → answered c call o .reply ≡ refused r → answered c call o .card ≡ c
+        back none r e = let z : _≡_ {A = ℕ} 0 1 = cc in absurd (omega arith)
+        back (some q) r e = refl
+
+        passes : (o : Option Refusal) → Says o → answered c call o .reply ≡ ok (report (accepted c call)) → NoRow c call
+        passes none s e = s
+        passes (some r) s e = let z : _≡_ {A = ℕ} 0 1 = cc in absurd (omega arith)
+
+-- so of every card that calls make
+pub table-after : (calls : List Call) (call : Call) → Table (after calls) call
+table-after calls call = table (after calls) call (meaning calls .remembered-once)
+
+-- wake, block or remove of a remembered identifier, whether or not its time has come
+pub remembered-seven : (calls : List Call) (call : Call) (tunnel time : ℕ) → RememberedWith (after calls .remembered) tunnel time
+    → WakeBlockRemoveOf (call .asked) tunnel → Row (after calls) call 7 0
+remembered-seven calls call tunnel time r w = row-7 tunnel w (meaning calls .never-both tunnel time r)

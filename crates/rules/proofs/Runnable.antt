@@ -9,6 +9,7 @@ use lib.Dec.{eqb}
 use borrow.Author.Tests.{eq-eqb, not-true}
 use Rattle.rules.specs.Lists.{keep, All}
 use Rattle.rules.specs.Vcpu.{Vcpu, admitted, named}
+use Rattle.rules.specs.Remember.{Remembered, kept}
 use Rattle.rules.specs.Card.{Card, toNamed}
 use Rattle.rules.specs.Change.{Change, admit, wake, block, remove, tick, setRunnable, change}
 use Rattle.rules.specs.Refuse.{Refusal, callRows, refusal}
@@ -43,17 +44,18 @@ mark-runnable f t b vs a = all-map (As (λ n. cond (eqb n t) b (f n))) (λ v. co
         go true e = rw e
         go false e = rw e q
 
-change-runnable : (f : ℕ → Bool) (now : ℕ) (asked : Change) (vs : List Vcpu) → callRows vs asked ≡ none → All (As f) vs
+change-runnable : (f : ℕ → Bool) (now : ℕ) (asked : Change) (vs : List Vcpu) (rs : List Remembered) → callRows vs rs asked ≡ none
+    → All (As f) vs
     → All (As (λ n. runnableAfter asked n (f n))) (change now asked vs)
-change-runnable f now (admit d) vs e a =
+change-runnable f now (admit d) vs rs e a =
     all-placed (As (λ n. runnableAfter (admit d) n (f n))) (admitted now d) vs (rw (eq-eqb (d .tunnel) (d .tunnel) refl))
-    (all-both (λ v n q. rw n q) vs (any-false (named (d .tunnel)) vs (admits vs d e .not-there)) a)
-change-runnable f now (wake t) vs e a = mark-runnable f t true vs a
-change-runnable f now (block t) vs e a = mark-runnable f t false vs a
-change-runnable f now (remove t) vs e a =
+    (all-both (λ v n q. rw n q) vs (any-false (named (d .tunnel)) vs (admits vs rs d e .not-there)) a)
+change-runnable f now (wake t) vs rs e a = mark-runnable f t true vs a
+change-runnable f now (block t) vs rs e a = mark-runnable f t false vs a
+change-runnable f now (remove t) vs rs e a =
     among-all (As (λ n. runnableAfter (remove t) n (f n))) (keep (λ v. not (named t v)) vs)
     (λ v m. let p = among-keep (λ v. not (named t v)) vs v m in rw (not-true (named t v) (p .1)) (all-among (As f) vs a v (p .0)))
-change-runnable f now tick vs e a = a
+change-runnable f now tick vs rs e a = a
 
 pub runnable-told : (calls : List Call) → All (λ v. v .runnable ≡ isRunnable (heard calls) (v .terms .tunnel)) (after calls .vcpus)
 unfolding settled
@@ -66,6 +68,7 @@ runnable-told (call ∷ calls) = go (refusal (after calls) (call .now) (call .as
     go (some r) e ih = rw (reply-refused (after calls) call r e, card-refused (after calls) call r e) ih
     go none e ih =
         rw (reply-accepted (after calls) call e, card-accepted (after calls) call e)
-        (change-runnable (isRunnable (heard calls)) (call .now) (call .asked) (afterReturn (after calls) (call .now))
-        (rows-stepped (after calls) (call .now) (call .asked) ∙ passed (after calls) (call .now) (call .asked) e .asked-for)
+        (change-runnable (isRunnable (heard calls)) (call .now) (call .asked) (afterReturn (after calls) (call .now)) _
+        (rows-stepped (after calls) (call .now) (kept (call .now) (after calls .remembered)) (call .asked)
+        ∙ passed (after calls) (call .now) (call .asked) e .asked-for)
         (step-runnable (isRunnable (heard calls)) (after calls) (call .now) ih))

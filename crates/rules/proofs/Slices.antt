@@ -26,11 +26,11 @@ begun T x [] = 0
 begun T x (true ∷ m) = cond (leb x (length m - going T m + T)) 1 0 + begun T x m
 begun T x (false ∷ m) = begun T x m
 
-going-on : (T : ℕ) (m : List Bool) → suc (going T m) < T → going T (true ∷ m) ≡ suc (going T m)
+pub going-on : (T : ℕ) (m : List Bool) → suc (going T m) < T → going T (true ∷ m) ≡ suc (going T m)
 unfolding going
 going-on T m h = rw (lt-ltb (suc (going T m)) T h)
 
-going-cut : (T : ℕ) (m : List Bool) → T ≤ suc (going T m) → going T (true ∷ m) ≡ 0
+pub going-cut : (T : ℕ) (m : List Bool) → T ≤ suc (going T m) → going T (true ∷ m) ≡ 0
 unfolding going
 going-cut T m h = rw (le-ltb (suc (going T m)) T h)
 
@@ -42,7 +42,7 @@ going-none : (T : ℕ) → going T [] ≡ 0
 unfolding going
 going-none T = refl
 
-begun-in : (T x : ℕ) (m : List Bool) → x ≤ length m - going T m + T → begun T x (true ∷ m) ≡ suc (begun T x m)
+pub begun-in : (T x : ℕ) (m : List Bool) → x ≤ length m - going T m + T → begun T x (true ∷ m) ≡ suc (begun T x m)
 unfolding begun
 begun-in T x m h = rw (le-leb x (length m - going T m + T) h) (omega arith)
 
@@ -50,7 +50,7 @@ begun-out : (T x : ℕ) (m : List Bool) → length m - going T m + T < x → beg
 unfolding begun
 begun-out T x m h = rw (lt-leb x (length m - going T m + T) h) (omega arith)
 
-begun-not : (T x : ℕ) (m : List Bool) → begun T x (false ∷ m) ≡ begun T x m
+pub begun-not : (T x : ℕ) (m : List Bool) → begun T x (false ∷ m) ≡ begun T x m
 unfolding begun
 begun-not T x m = refl
 

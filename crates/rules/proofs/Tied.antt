@@ -1,10 +1,11 @@
 -- What ties a sporadic VCPU's queue to the ticks that its stay held: of the slices begun less than T before a moment x to come, no more
--- ticks were held than are pending at x or later; and while its slices never made the queue fold, the recent ones are its pending
--- returns, one for one. Assumes of a charge what Sound does.
+-- ticks were held than are pending at x or later; the last return is due one period after the latest slice began; and while its slices
+-- never made the queue fold, the recent ones are its pending returns, one for one. Assumes of a charge what Sound does.
 use mathlib.Core.Path.{_≡_, refl, ap, sym, _∙_, subst}
 use mathlib.Core.Bool.{Bool, true, false, cond, _||_}
 use mathlib.Core.List.{List, [], _∷_, _++_}
 use mathlib.Core.Logic.{_⊎_, ⊎-elim}
+use mathlib.Core.Option.{some}
 use Prim.Native.Nat.{ℕ, zero, suc, _+_, _-_, _≤_, _<_}
 use native.Mathlib.Omega.{arith}
 use lib.Dec.{leb, ltb, eqb}
@@ -16,6 +17,7 @@ use Rattle.rules.specs.Charge.{toLast, waiting, goesOn, joins, full, fol
 use Rattle.rules.specs.Return.{still}
 use Rattle.rules.specs.History.{ticks}
 use Rattle.rules.specs.Slices.{Slice, slices, recent, returnsOf, everFolds}
+use Rattle.rules.specs.Together.{returnsBy}
 use Rattle.rules.proofs.Tests.{tests, clash, cases, or-false, or-right, or-none}
 use Rattle.rules.proofs.ThreeKinds.{is-sporadic}
 use Rattle.rules.proofs.Slices.{going, begun, going-not, going-short, going-counted, More, more, begun-idle}
@@ -30,6 +32,8 @@ use Rattle.rules.proofs.Window.{Within, within-held}
 pub record Tied (T now ended : ℕ) (q : List Entry) (m : List Bool) : Type 0 where
   pub at-most : (x : ℕ) → now < x → begun T x m ≤ pend x q
   pub one-for-one : everFolds T (slices T m) ≡ false → still now q ≡ returnsOf T (recent T now (slices T m))
+  -- folded or not
+  pub latest : waiting q ≡ true → returnsBy T (slices T m) ≡ some (lastDue q)
   -- a slice that a next tick would go on with is the last entry's, which is due one period after the slice's start
   pub goes-on : 0 < going T m → (ended ≡ now) × (waiting q ≡ true) × (now < lastDue q)
   pub since : ended ≡ now → waiting q ≡ true → now < lastDue q → (0 < going T m) × (lastDue q + going T m ≡ now + T)
@@ -41,6 +45,7 @@ tied-return T now ended low high q m r t =
     record {
       at-most = λ x h. omega (arith, s .counts x h, t .at-most x h);
       one-for-one = λ f. still-again now now q (omega arith) ∙ t .one-for-one f;
+      latest = λ w. let l = s .same-last w in t .latest (l .0) ∙ ap some (sym (l .1));
       goes-on = λ g. (t .goes-on g .0, s .waits (t .goes-on g .1) (t .goes-on g .2), again g);
       since = λ e w h. before e w h;
     }
@@ -69,6 +74,7 @@ tied-idle T last (suc d) ended q m n h t =
       at-most = λ x k. omega (arith, begun-idle T x (suc d) m, t .at-most x (omega arith));
       one-for-one = subst (λ (ss : List Slice). everFolds T ss ≡ false → still (last + suc d) q ≡ returnsOf T (recent T (last + suc d) ss))
           (sym (slices-idle T (suc d) m)) waited;
+      latest = λ w. ap (returnsBy T) (slices-idle T (suc d) m) ∙ t .latest w;
       goes-on = λ g. absurd (omega (arith, going-not T (ticks d false m)));
       since = λ e w k. absurd (omega arith);
     }
@@ -183,6 +189,18 @@ module _ (last d : ℕ) (v : Vcpu) (m : List Bool) (n : length m ≡ last) (s : 
           ∙ returns-begin T last d before (s .range .period-low)
           ∙ ap (λ ss. returnsOf T (recent T last ss)) (sym (begins g h))
 
+  -- one period after the start of the latest slice
+  latest-lands : 1 ≤ d → returnsBy T after ≡ some (lastDue (posted last d v))
+  latest-lands h = by-going on new
+    where
+      on : 0 < going T m → joins last v ≡ true → returnsBy T after ≡ some (lastDue (posted last d v))
+      on g j =
+          let p = slices-on T d m g fits in
+          ap (returnsBy T) (p .grows) ∙ ap some (omega (arith, p .begun-at, lands-there))
+
+      new : going T m ≡ 0 → joins last v ≡ false → returnsBy T after ≡ some (lastDue (posted last d v))
+      new g j = ap (returnsBy T) (begins g h) ∙ ap some (omega (arith, lands-there))
+
   tied-held : 1 ≤ d
       → Tied T (last + d) (last + d) (posted last d v) (ticks d true m)
   tied-held h =
@@ -193,6 +211,7 @@ module _ (last d : ℕ) (v : Vcpu) (m : List Bool) (n : length m ≡ last) (s : 
         one-for-one = λ f. ap (still (last + d)) (posted-slices h f)
             ∙ still-returns T last (last + d) (length (ticks d true m)) (slices T (ticks d true m))
             (slices-apart T (ticks d true m)) (omega arith);
+        latest = λ w. latest-lands h;
         goes-on = λ g. (refl, P .waits, soon g);
         since = λ e w k. (
           omega (arith, M .goes-on (omega (arith, lands-there))),

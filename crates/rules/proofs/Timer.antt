@@ -8,13 +8,13 @@ use mathlib.Core.Option.{Option, none, some}
 use Prim.Native.Nat.{ℕ, _+_, _<_, _≤_, min}
 use native.Mathlib.Omega.{arith}
 use Rattle.rules.specs.Lists.{keep, All, Among}
-use Rattle.rules.specs.Vcpu.{Entry, Vcpu, moreUrgent}
-use Rattle.rules.specs.Timer.{earlier, earliest, times, comes, next, nexts, runnable, above, timer}
+use Rattle.rules.specs.Vcpu.{Entry, Vcpu, moreUrgent, times, comes}
+use Rattle.rules.specs.Timer.{earlier, earliest, next, nexts, runnable, above, timer}
 use lib.Dec.{leb}
 use Rattle.rules.specs.Meaning.{Comes, return, boundary, Next, NoneBefore, Runnable, Above, TimerWhile}
 use borrow.Author.Tests.{leb-true, leb-false}
 use Rattle.rules.proofs.Tests.{no-some, cases, and-true}
-use Rattle.rules.proofs.Lists.{all-imp, all-among, among-map, map-among, among-keep, all-kept}
+use Rattle.rules.proofs.Lists.{all-imp, all-among, among-map, map-among, among-append, append-among, among-keep, all-kept}
 use Rattle.rules.proofs.Urgency.{before, urgent}
 
 earliest-none : (ts : List ℕ) → earliest ts ≡ none → ts ≡ []
@@ -47,20 +47,9 @@ earliest-says (u ∷ ts) t e = go (earliest ts) (λ w. earliest-says ts w) (earl
             let m : w ≡ t = omega (arith, g) in
             (inr (subst (λ (z : ℕ). Among z ts) m (ih w refl .0)), (omega arith, all-imp (λ x k. omega arith) ts (ih w refl .1)))
 
-among-append : {A : Type 0} (l k : List A) (a : A) → Among a (l ++ k) → Among a l ⊎ Among a k
-among-append [] k a m = inr m
-among-append (b ∷ l) k a (inl e) = inl (inl e)
-among-append (b ∷ l) k a (inr m) = ⊎-elim (λ n. inl (inr n)) (λ n. inr n) (among-append l k a m)
-
 all-append : {A : Type 0} (P : A → Type 0) (l k : List A) → All P (l ++ k) → All P l × All P k
 all-append P [] k h = (tt, h)
 all-append P (a ∷ l) k h = ((h .0, all-append P l k (h .1) .0), all-append P l k (h .1) .1)
-
-append-among : {A : Type 0} (l k : List A) (a : A) → Among a l ⊎ Among a k → Among a (l ++ k)
-append-among [] k a (inr m) = m
-append-among (b ∷ l) k a (inl (inl e)) = inl e
-append-among (b ∷ l) k a (inl (inr m)) = inr (append-among l k a (inl m))
-append-among (b ∷ l) k a (inr m) = inr (append-among l k a (inr m))
 
 among-times : (o : Option ℕ) (t : ℕ) → Among t (times o) → o ≡ some t
 among-times (some u) t (inl e) = rw e
@@ -70,7 +59,7 @@ times-among o t e = rw e (inl refl)
 
 -- the rules' times of a VCPU are those at which something comes to it
 
-comes-says : (v : Vcpu) (t : ℕ) → Among t (comes v) → Comes v t
+pub comes-says : (v : Vcpu) (t : ℕ) → Among t (comes v) → Comes v t
 comes-says v t m = go (among-append (map (λ e. e .due) (v .pending)) (times (v .boundary)) t m)
   where
     go : Among t (map (λ e. e .due) (v .pending)) ⊎ Among t (times (v .boundary)) → Comes v t
@@ -79,7 +68,7 @@ comes-says v t m = go (among-append (map (λ e. e .due) (v .pending)) (times (v 
         subst (λ (u : ℕ). Comes v u) (sym (p .2)) (return (p .0) (p .1))
     go (inr k) = boundary t (among-times (v .boundary) t k)
 
-is-coming : (v : Vcpu) (t : ℕ) → Comes v t → Among t (comes v)
+pub is-coming : (v : Vcpu) (t : ℕ) → Comes v t → Among t (comes v)
 is-coming v t (return e m) =
     append-among (map (λ f. f .due) (v .pending)) (times (v .boundary)) (e .due) (inl (map-among (λ (f : Entry). f .due) (v .pending) e m))
 is-coming v t (boundary b e) =

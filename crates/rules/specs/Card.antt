@@ -6,17 +6,20 @@ use mathlib.Core.List.{List, [], _∷_, map}
 use mathlib.Core.Option.{Option, none, some}
 use Rattle.rules.specs.Lists.{any}
 use Rattle.rules.specs.Vcpu.{Vcpu, named}
+use Rattle.rules.specs.Remember.{Remembered}
 
--- `last` is the time of the last accepted call; `running` is the identifier of the VCPU that holds the core, none in idle
+-- `last` is the time of the last accepted call; `running` is the identifier of the VCPU that holds the core, none in idle. `remembered`
+-- has the identifiers that left the card and are remembered
 pub record Card : Type 0 where
   pub last : ℕ
   pub running : Option ℕ
   pub timer : Option ℕ
   pub vcpus : List Vcpu
+  pub remembered : List Remembered
 
 -- "An empty card has time 0, runs idle and has no timer."
 abbrev pub empty : Card
-empty = record { last = 0; running = none; timer = none; vcpus = [] }
+empty = record { last = 0; running = none; timer = none; vcpus = []; remembered = [] }
 
 -- the identifier is on the card
 abbrev pub onCard : ℕ → List Vcpu → Bool

@@ -1,10 +1,11 @@
 -- Demand 3, sentence by sentence, of what a host hears and of the VCPUs on the card after any calls from the empty card.
 -- Proved for every list of calls in proofs/Demand3. What holds of the card alone is in Meaning. Assumes nothing.
-use Prim.Native.Nat.{ℕ, _+_, _*_, _≤_}
+use Prim.Native.Nat.{ℕ, _+_, _*_, _≤_, _<_}
 use mathlib.Core.Path.{_≡_}
 use mathlib.Core.Bool.{Bool, true, false, not, _&&_, _||_}
 use mathlib.Core.List.{List, [], _∷_}
-use mathlib.Core.Option.{none, some}
+use mathlib.Core.Logic.{_↔_}
+use mathlib.Core.Option.{Option, none, some}
 use lib.Dec.{leb, ltb, eqb}
 use lib.ListN.{length}
 use Rattle.rules.specs.Limits.{mostPending}
@@ -12,11 +13,12 @@ use Rattle.rules.specs.Lists.{any, count, sum, All, Among}
 use Rattle.rules.specs.Vcpu.{Vcpu}
 use Rattle.rules.specs.Card.{Card}
 use Rattle.rules.specs.Turn.{Call}
-use Rattle.rules.specs.Meaning.{Sporadic, Deferrable, Polling}
+use Rattle.rules.specs.Meaning.{Sporadic, Deferrable, Polling, RememberedWith}
 use Rattle.rules.specs.History.{Exchange, after, heard, time, holder, past, isRunnable, idleTicks}
 use Rattle.rules.specs.Stays.{Stay, lasts, lastsAs, stays, owns, held, heldTicks, window, EachTick, owners}
 use Rattle.rules.specs.Slices.{Slice, slices, recent, ticksOf, returnsOf, everFolds}
 use Rattle.rules.specs.Boundaries.{heldBetween, boundary, latest, hasRefill}
+use Rattle.rules.specs.Together.{owesUntil, alike}
 
 -- a deferrable or polling stay
 abbrev pub Refills : Stay → Type 0
@@ -36,6 +38,35 @@ AtMostOnce xs s = (k : ℕ) → heldBetween (boundary s k) (boundary s (k + 1)) 
 abbrev pub AtMostTwice : List Exchange → Stay → Type 0
 AtMostTwice xs s =
     (before : ℕ) → heldTicks (window (s .terms .period) before (held s (past xs))) ≤ 2 * s .terms .capacity
+
+-- (a) across stays, "windows across two stays with the same period and capacity": of all sporadic stays of one identifier with the same
+-- period and capacity together
+abbrev pub TogetherAtMostCapacity : List Exchange → Stay → Type 0
+TogetherAtMostCapacity xs s =
+    (before : ℕ) → sum (λ r. heldTicks (window (s .terms .period) before (held r (past xs)))) (alike s (stays xs)) ≤ s .terms .capacity
+
+-- .. and of all deferrable, or all polling, ones
+abbrev pub TogetherAtMostTwice : List Exchange → Stay → Type 0
+TogetherAtMostTwice xs s =
+    (before : ℕ) → sum (λ r. heldTicks (window (s .terms .period) before (held r (past xs)))) (alike s (stays xs)) ≤ 2 * s .terms .capacity
+
+-- of the stays, the latest first: when one began, every earlier one of its identifier had ended, and the time that it left behind had come
+abbrev pub NoSooner : List (Option ℕ) → List Stay → Type 0
+NoSooner past [] = Unit {0}
+NoSooner past (s ∷ earlier) =
+    All (λ r. r .terms .tunnel ≡ s .terms .tunnel
+    → (end : ℕ) × (r .until ≡ some end) × (end ≤ s .from) × ((t : ℕ) → owesUntil past r end ≡ some t → t ≤ s .from)) earlier
+    × NoSooner past earlier
+
+-- a stay of the identifier has ended, and that is the time that it left behind, still to come
+pub record StillOwes (xs : List Exchange) (tunnel t : ℕ) : Type 0 where
+  pub stay : Stay
+  pub one-of-them : Among stay (stays xs)
+  pub so-named : stay .terms .tunnel ≡ tunnel
+  pub end : ℕ
+  pub ended : stay .until ≡ some end
+  pub owes : owesUntil (past xs) stay end ≡ some t
+  pub to-come : time xs < t
 
 -- this stay's slices
 abbrev pub slicesOf : List Exchange → Stay → List Slice
@@ -127,6 +158,12 @@ pub record Demand3 (calls : List Call) : Type 0 where
   pub next-boundary : All (OfItsVcpu calls (λ s v. Refills s → NextBoundary (heard calls) s v)) (stays (heard calls))
   pub unused : All (OfItsVcpu calls (λ s v. Deferrable (s .terms) → Unused (heard calls) s v)) (stays (heard calls))
   pub polled : All (OfItsVcpu calls (λ s v. Polling (s .terms) → Polled (heard calls) s v)) (stays (heard calls))
+  -- (a) across stays, for every stay with all those like it, ended ones included
+  pub together : All (λ s. Sporadic (s .terms) → TogetherAtMostCapacity (heard calls) s) (stays (heard calls))
+  pub together-twice : All (λ s. Refills s → TogetherAtMostTwice (heard calls) s) (stays (heard calls))
+  -- a tenant comes back no sooner than the time that it left behind; who is remembered with which time, from the history alone
+  pub no-sooner : NoSooner (past (heard calls)) (stays (heard calls))
+  pub remembered : (tunnel t : ℕ) → RememberedWith (after calls .remembered) tunnel t ↔ StillOwes (heard calls) tunnel t
   -- (c) each tick belongs to one stay or to idle, and together they add up to the time of the last accepted call
   pub one-owner : EachTick (λ holder at. owners (stays (heard calls)) holder at ≡ 1) (past (heard calls))
   pub adds-up :

@@ -11,6 +11,7 @@ use lib.ListN.{length}
 use Rattle.rules.specs.Limits.{largestTime, largestTunnel, largestPeriod, mostVcpus, mostPending}
 use Rattle.rules.specs.Lists.{count, sum, All, Among}
 use Rattle.rules.specs.Vcpu.{Description, Entry, Vcpu}
+use Rattle.rules.specs.Remember.{Remembered, timeOf}
 use Rattle.rules.specs.Card.{Card, onCard, find}
 use Rattle.rules.specs.Turn.{report}
 
@@ -79,6 +80,10 @@ pub record InRange (d : Description) : Type 0 where
 abbrev pub OnTheCard : List Vcpu → ℕ → Type 0
 OnTheCard vs tunnel = (v : Vcpu) × Among v vs × (v .terms .tunnel ≡ tunnel)
 
+-- the identifier is remembered, all 24 bits of it, with that time
+abbrev pub RememberedWith : List Remembered → ℕ → ℕ → Type 0
+RememberedWith rs tunnel time = (r : Remembered) × Among r rs × (r .tunnel ≡ tunnel) × (r .time ≡ time)
+
 abbrev pub pendingTicks : Vcpu → ℕ
 pendingTicks v = sum (λ e. e .amount) (v .pending)
 
@@ -127,3 +132,11 @@ pub record Meaning (c : Card) : Type 0 where
   pub few-vcpus : length (c .vcpus) ≤ mostVcpus
   pub in-range : All (λ v. InRange (v .terms)) (c .vcpus)
   pub few-pending : All (λ v. length (v .pending) ≤ mostPending) (c .vcpus)
+  -- an identifier is on the card, or remembered with one time, or neither, never both; together they are at most 32
+  pub never-both : (tunnel time : ℕ) → RememberedWith (c .remembered) tunnel time → OnTheCard (c .vcpus) tunnel → ⊥
+  pub remembered-once : (tunnel : ℕ) → count (λ r. eqb (r .tunnel) tunnel) (c .remembered) ≤ 1
+  pub few-together : length (c .vcpus) + length (c .remembered) ≤ mostVcpus
+  -- the rules look its time up
+  pub time-of : (tunnel time : ℕ) → timeOf tunnel (c .remembered) ≡ some time ↔ RememberedWith (c .remembered) tunnel time
+  -- its time is still to come, within the longest period
+  pub remembered-range : All (λ r. (r .tunnel ≤ largestTunnel) × (c .last < r .time) × (r .time ≤ c .last + largestPeriod)) (c .remembered)

@@ -1,6 +1,6 @@
--- Document 01, "Reply numbers", rows 1 to 8, with rows 10 to 12 of document 02, Nos. 1 and 2: the first row from the top that applies.
+-- Document 01, "Reply numbers", rows 1 to 8, with rows 9 to 12 of document 02, Nos. 1 to 3: the first row from the top that applies.
 -- Rows states the same in plain facts. Assumes nothing.
-use Prim.Native.Nat.{ℕ}
+use Prim.Native.Nat.{ℕ, _+_}
 use mathlib.Core.Bool.{Bool, cond, not}
 use mathlib.Core.List.{List}
 use mathlib.Core.Option.{Option, none, some}
@@ -8,6 +8,7 @@ use lib.Dec.{leb, ltb, eqb}
 use lib.ListN.{length}
 use Rattle.rules.specs.Limits.{largestTime, largestTunnel, largestKind, mostVcpus, inRange}
 use Rattle.rules.specs.Vcpu.{Description, Vcpu}
+use Rattle.rules.specs.Remember.{Remembered, kept, timeOf}
 use Rattle.rules.specs.Card.{Card, onCard}
 use Rattle.rules.specs.Change.{Change, admit, wake, block, remove, tick}
 
@@ -41,28 +42,36 @@ timeRows last timer now below = row (aboveLargest now) 1 0 (row (belowLast last 
 abbrev pub above24Bits : ℕ → Bool
 above24Bits tunnel = ltb largestTunnel tunnel
 
--- "5 for the period, 11 for a capacity of 0, 12 for a capacity above the period"; "11 then 12, straight after 5 and before 10"
-abbrev pub admitRows : List Vcpu → Description → Option Refusal
-admitRows vs d =
+-- "9, identifier is remembered, with that time as the detail, after 6"
+abbrev pub rowRemembered : Option ℕ → Option Refusal → Option Refusal
+rowRemembered none below = below
+rowRemembered (some time) below = some (record { number = 9; detail = time })
+
+-- "5 for the period, 11 for a capacity of 0, 12 for a capacity above the period"; "11 then 12, straight after 5 and before 10";
+-- "8 now counts remembered places". `rs` are those remembered at the call's time
+abbrev pub admitRows : List Vcpu → List Remembered → Description → Option Refusal
+admitRows vs rs d =
     row (above24Bits (d .tunnel)) 4 0
     (row (not (inRange (d .period))) 5 0
     (row (eqb (d .capacity) 0) 11 0
     (row (ltb (d .period) (d .capacity)) 12 0
     (row (ltb largestKind (d .kind)) 10 0
     (row (onCard (d .tunnel) vs) 6 0
-    (row (leb mostVcpus (length vs)) 8 0
-    none))))))
+    (rowRemembered (timeOf (d .tunnel) rs)
+    (row (leb mostVcpus (length vs + length rs)) 8 0
+    none)))))))
 
 -- wake, block, remove
 abbrev pub namingRows : List Vcpu → ℕ → Option Refusal
 namingRows vs tunnel = row (above24Bits tunnel) 4 0 (row (not (onCard tunnel vs)) 7 0 none)
 
-abbrev pub callRows : List Vcpu → Change → Option Refusal
-callRows vs (admit d) = admitRows vs d
-callRows vs (wake tunnel) = namingRows vs tunnel
-callRows vs (block tunnel) = namingRows vs tunnel
-callRows vs (remove tunnel) = namingRows vs tunnel
-callRows vs tick = none
+abbrev pub callRows : List Vcpu → List Remembered → Change → Option Refusal
+callRows vs rs (admit d) = admitRows vs rs d
+callRows vs rs (wake tunnel) = namingRows vs tunnel
+callRows vs rs (block tunnel) = namingRows vs tunnel
+callRows vs rs (remove tunnel) = namingRows vs tunnel
+callRows vs rs tick = none
 
+-- "Both are judged at the call's time."
 unfoldable pub refusal : Card → ℕ → Change → Option Refusal
-refusal c now asked = timeRows (c .last) (c .timer) now (callRows (c .vcpus) asked)
+refusal c now asked = timeRows (c .last) (c .timer) now (callRows (c .vcpus) (kept now (c .remembered)) asked)

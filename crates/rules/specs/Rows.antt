@@ -1,20 +1,21 @@
--- Document 01, "Reply numbers", rows 1 to 8, with rows 10 to 12 of document 02, as plain facts: where each applies, and that the first from
+-- Document 01, "Reply numbers", rows 1 to 8, with rows 9 to 12 of document 02, as plain facts: where each applies, and that the first from
 -- the top that does is given.
--- Proved of every card and every call in proofs/Rows. Assumes nothing.
-use Prim.Native.Nat.{ℕ, _≤_, _<_}
+-- Proved of every call, and of every card on which no identifier is remembered twice, in proofs/Rows. Assumes nothing.
+use Prim.Native.Nat.{ℕ, _+_, _≤_, _<_}
 use mathlib.Core.Path.{_≡_}
 use mathlib.Core.List.{List, [], _∷_}
 use mathlib.Core.Logic.{_⊎_, _↔_}
 use mathlib.Core.Option.{some}
+use lib.Dec.{ltb}
 use lib.ListN.{length}
 use Rattle.rules.specs.Limits.{largestTime, largestTunnel, largestPeriod, mostVcpus}
-use Rattle.rules.specs.Lists.{Among}
+use Rattle.rules.specs.Lists.{count, Among}
 use Rattle.rules.specs.Vcpu.{Description}
 use Rattle.rules.specs.Card.{Card}
 use Rattle.rules.specs.Change.{Change, admit, wake, block, remove}
 use Rattle.rules.specs.Refuse.{Refusal}
 use Rattle.rules.specs.Turn.{Call, ok, refused, turn, accepted, report}
-use Rattle.rules.specs.Meaning.{Sporadic, Deferrable, Polling, OnTheCard}
+use Rattle.rules.specs.Meaning.{Sporadic, Deferrable, Polling, OnTheCard, RememberedWith}
 
 -- an admit of this identifier
 abbrev pub AdmitOf : Change → ℕ → Type 0
@@ -41,14 +42,18 @@ pub data Row (c : Card) (call : Call) : ℕ → ℕ → Type 0 where
   row-10 : (d : Description) → call .asked ≡ admit d → (Sporadic d → ⊥) → (Deferrable d → ⊥) → (Polling d → ⊥) → Row c call 10 0
   -- "admit: identifier is on the card"
   row-6 : (d : Description) → call .asked ≡ admit d → OnTheCard (c .vcpus) (d .tunnel) → Row c call 6 0
+  -- "9, identifier is remembered, with that time as the detail", "judged at the call's time": one whose time has come is not
+  row-9 : (d : Description) (time : ℕ) → call .asked ≡ admit d → RememberedWith (c .remembered) (d .tunnel) time → call .now < time
+      → Row c call 9 time
   -- "wake, block, remove: identifier is not on the card"
   row-7 : (tunnel : ℕ) → WakeBlockRemoveOf (call .asked) tunnel → (OnTheCard (c .vcpus) tunnel → ⊥) → Row c call 7 0
-  -- "admit: 32 VCPUs are on the card"
-  row-8 : (d : Description) → call .asked ≡ admit d → mostVcpus ≤ length (c .vcpus) → Row c call 8 0
+  -- "admit: 32 VCPUs are on the card"; "8 now counts remembered places", and is judged at the call's time
+  row-8 : (d : Description) → call .asked ≡ admit d
+      → mostVcpus ≤ length (c .vcpus) + count (λ r. ltb (call .now) (r .time)) (c .remembered) → Row c call 8 0
 
--- the rows from the top: "11 then 12, straight after 5 and before 10"
+-- the rows from the top: "11 then 12, straight after 5 and before 10"; 9 "after 6"
 abbrev pub order : List ℕ
-order = 1 ∷ 2 ∷ 3 ∷ 4 ∷ 5 ∷ 11 ∷ 12 ∷ 10 ∷ 6 ∷ 7 ∷ 8 ∷ []
+order = 1 ∷ 2 ∷ 3 ∷ 4 ∷ 5 ∷ 11 ∷ 12 ∷ 10 ∷ 6 ∷ 9 ∷ 7 ∷ 8 ∷ []
 
 -- the row n stands above the row m
 abbrev pub Higher : ℕ → ℕ → List ℕ → Type 0

@@ -5,7 +5,7 @@ use mathlib.Core.Bool.{Bool, _&&_}
 use mathlib.Core.List.{List, [], _∷_, _++_, map}
 use mathlib.Core.Option.{Option, none, some}
 use Rattle.rules.specs.Lists.{keep}
-use Rattle.rules.specs.Vcpu.{Vcpu, moreUrgent}
+use Rattle.rules.specs.Vcpu.{Vcpu, times, comes, moreUrgent}
 
 abbrev pub earlier : ℕ → Option ℕ → ℕ
 earlier a none = a
@@ -14,14 +14,6 @@ earlier a (some b) = min a b
 abbrev pub earliest : List ℕ → Option ℕ
 earliest [] = none
 earliest (t ∷ ts) = some (earlier t (earliest ts))
-
-abbrev pub times : Option ℕ → List ℕ
-times none = []
-times (some t) = t ∷ []
-
--- the times at which something comes to a VCPU: its pending returns, or its next boundary
-abbrev pub comes : Vcpu → List ℕ
-comes v = map (λ e. e .due) (v .pending) ++ times (v .boundary)
 
 -- the next time that something comes to it
 abbrev pub next : Vcpu → Option ℕ

@@ -4,10 +4,11 @@ use Prim.Native.Nat.{ℕ}
 use mathlib.Core.List.{List}
 use mathlib.Core.Option.{Option, none, some}
 use Rattle.rules.specs.Vcpu.{Vcpu}
+use Rattle.rules.specs.Remember.{Remembered}
 use Rattle.rules.specs.Card.{Card}
 use Rattle.rules.specs.Charge.{charge}
 use Rattle.rules.specs.Return.{bring}
-use Rattle.rules.specs.Change.{Change, change}
+use Rattle.rules.specs.Change.{Change, change, remember}
 use Rattle.rules.specs.Choose.{choose, runs, usableOf}
 use Rattle.rules.specs.Timer.{timer}
 use Rattle.rules.specs.Refuse.{Refusal, refusal}
@@ -41,16 +42,20 @@ afterReturn c now = bring now (afterCharge c now)
 abbrev pub afterChange : Card → Call → List Vcpu
 afterChange c call = change (call .now) (call .asked) (afterReturn c (call .now))
 
+-- who is remembered then
+abbrev pub rememberedThen : Card → Call → List Remembered
+rememberedThen c call = remember (call .now) (call .asked) (afterReturn c (call .now)) (c .remembered)
+
 -- steps 4 and 5: choose and timer
-unfoldable pub settled : ℕ → List Vcpu → Card
-settled now vs =
-    record { last = now; running = runs (choose vs); timer = timer now vs (choose vs); vcpus = vs }
+unfoldable pub settled : ℕ → List Vcpu → List Remembered → Card
+settled now vs rs =
+    record { last = now; running = runs (choose vs); timer = timer now vs (choose vs); vcpus = vs; remembered = rs }
 
 abbrev pub report : Card → Report
 report c = record { time = c .last; run = c .running; usable = usableOf (choose (c .vcpus)); timer = c .timer }
 
 abbrev pub accepted : Card → Call → Card
-accepted c call = settled (call .now) (afterChange c call)
+accepted c call = settled (call .now) (afterChange c call) (rememberedThen c call)
 
 -- "A refusal returns the number and the detail and no result; the state handed back equals the state handed in."
 abbrev pub answered : Card → Call → Option Refusal → Answer

@@ -2,7 +2,7 @@
 -- Assumes nothing.
 use Prim.Native.Nat.{ℕ, _+_}
 use mathlib.Core.Bool.{Bool, false, cond, not, _&&_, _||_}
-use mathlib.Core.List.{List, []}
+use mathlib.Core.List.{List, [], _∷_, _++_, map}
 use mathlib.Core.Option.{Option, none, some}
 use lib.Dec.{ltb, eqb}
 
@@ -36,6 +36,14 @@ pub record Vcpu : Type 0 where
   pub ended : ℕ
   pub pending : List Entry
   pub boundary : Option ℕ
+
+abbrev pub times : Option ℕ → List ℕ
+times none = []
+times (some t) = t ∷ []
+
+-- the times at which something comes to a VCPU: its pending returns, or its next boundary
+abbrev pub comes : Vcpu → List ℕ
+comes v = map (λ e. e .due) (v .pending) ++ times (v .boundary)
 
 -- of a polling VCPU "any call that leaves it not runnable, its admission too, takes its usable ticks away"
 abbrev pub leaves : Description → Bool → ℕ → ℕ

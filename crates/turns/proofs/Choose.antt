@@ -11,10 +11,10 @@ use lib.ListN.{length}
 use borrow.Author.Tests.{eqb-true, eq-eqb, lt-ltb}
 use Rattle.units.specs.Units.{moment, amount}
 use Rattle.rules.specs.Lists.{keep, All}
-use Rattle.rules.specs.Vcpu.{Description, moreUrgent, named}
+use Rattle.rules.specs.Vcpu.{Description, moreUrgent, named, times, comes}
 use Rattle.rules.specs.Vcpu.{Vcpu as Tenant}
 use Rattle.rules.specs.Choose.{ready, better, mostUrgent, choose}
-use Rattle.rules.specs.Timer.{earlier, earliest, times, comes, next, nexts, runnable, above}
+use Rattle.rules.specs.Timer.{earlier, earliest, next, nexts, runnable, above}
 use Rattle.rules.proofs.Tests.{and-right}
 use Rattle.rules.proofs.Lists.{all-among, map-among}
 use Rattle.rules.proofs.Choice.{chosen}

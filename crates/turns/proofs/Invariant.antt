@@ -15,11 +15,12 @@ use Rattle.rules.specs.Card.{Card}
 use Rattle.rules.specs.Turn.{Call}
 use Rattle.rules.specs.History.{after, heard, past}
 use Rattle.rules.specs.Stays.{stays}
-use Rattle.rules.specs.Meaning.{InRange, pendingTicks}
+use Rattle.rules.specs.Meaning.{InRange, Meaning, pendingTicks}
 use Rattle.rules.proofs.Named.{named-itself}
 use Rattle.rules.proofs.ThreeKinds.{by-kind}
 use Rattle.rules.proofs.Sound.{Orderly, Sound}
 use Rattle.rules.proofs.Reached.{Reached, reached}
+use Rattle.rules.proofs.Meaning.{meaning}
 use Rattle.turns.specs.declared.Core.{Core}
 use Rattle.turns.specs.Written.{card, coreOf}
 use Rattle.turns.proofs.Written.{Formed, queue, refills, Shows}
@@ -106,3 +107,6 @@ module _ (c : Core) (r : SoundCore c) where
 
   pub card-reached : Reached (card c) (stays (heard (r .calls))) (past (heard (r .calls)))
   card-reached = subst (λ (x : Card). Reached x (stays (heard (r .calls))) (past (heard (r .calls)))) (sym (r .shows)) (reached (r .calls))
+
+  pub means : Meaning (card c)
+  means = subst Meaning (sym (r .shows)) (meaning (r .calls))

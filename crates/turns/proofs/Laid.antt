@@ -1,10 +1,12 @@
--- A list laid into an array: reading and writing a place, one more at the end, one put in, one taken out, and the front.
+-- A list laid into an array: reading and writing a place, one more at the end, one put in, one taken out, the front, and a front laid
+-- anew.
 -- Assumes nothing.
 use Prim.Native.Nat.{ℕ, zero, suc, _≤_, _<_}
-use mathlib.Core.Path.{_≡_, refl, ap, sym}
-use mathlib.Core.List.{List, [], _∷_, _++_, map}
+use mathlib.Core.Path.{_≡_, refl, ap, sym, _∙_}
+use mathlib.Core.List.{List, [], _∷_, _++_, map, append-assoc}
 use native.Mathlib.Omega.{arith}
-use lib.ListN.{length, take, getD, set}
+use lib.ListN.{length, take, drop, getD, set}
+use lib.Seq.{getD-at, set-at, set-append-left}
 use Rattle.turns.specs.Laid.{laid}
 use Rattle.turns.specs.Places.{inserted, removed}
 
@@ -85,3 +87,32 @@ module _ {A B : Type 0} (f : A → B) (z : B) where
   laid-front k [] h = refl
   laid-front zero (x ∷ l) h = absurd (omega arith)
   laid-front (suc k) (x ∷ l) h = ap (λ (r : List B). f x ∷ r) (laid-front k l (omega arith))
+
+  -- a front of k places laid anew, before what stood there
+  pub front-get : (k : ℕ) (l : List A) (x : B) (r : List B) (b : B) → getD (laid k f z l ++ x ∷ r) k b ≡ x
+  unfolding laid
+  front-get k l x r b = getD-at (laid k f z l) x r b k (laid-length k l)
+
+  pub front-vacate : (k : ℕ) (l : List A) (x : B) (r : List B) → length l ≤ k → set (laid k f z l ++ x ∷ r) k z ≡ laid (suc k) f z l ++ r
+  front-vacate k l x r h =
+      set-at (laid k f z l) x r z k (laid-length k l)
+      ∙ sym (append-assoc (laid k f z l) (z ∷ []) r)
+      ∙ ap (λ (q : List B). q ++ r) (sym (laid-more k l h))
+
+  pub front-end : (k : ℕ) (l : List A) (a : A) (r : List B) → length l < k
+      → set (laid k f z l ++ r) (length l) (f a) ≡ laid k f z (l ++ a ∷ []) ++ r
+  front-end k l a r h =
+      set-append-left (laid k f z l) r (length l) (f a) (omega (arith, laid-length k l))
+      ∙ ap (λ (q : List B). q ++ r) (laid-end k l a h)
+
+  pub front-all : (k n : ℕ) (l m : List A) → length l ≤ k → length m ≤ k → k ≤ n → laid k f z l ++ drop k (laid n f z m) ≡ laid n f z l
+  unfolding laid
+  front-all zero n [] [] h g e = refl
+  front-all zero n (a ∷ l) m h g e = absurd (omega arith)
+  front-all zero n [] (b ∷ m) h g e = absurd (omega arith)
+  front-all (suc k) zero l m h g e = absurd (omega arith)
+  front-all (suc k) (suc n) [] [] h g e = ap (λ (r : List B). z ∷ r) (front-all k n [] [] (omega arith) (omega arith) (omega arith))
+  front-all (suc k) (suc n) [] (b ∷ m) h g e = ap (λ (r : List B). z ∷ r) (front-all k n [] m (omega arith) (omega arith) (omega arith))
+  front-all (suc k) (suc n) (a ∷ l) [] h g e = ap (λ (r : List B). f a ∷ r) (front-all k n l [] (omega arith) (omega arith) (omega arith))
+  front-all (suc k) (suc n) (a ∷ l) (b ∷ m) h g e =
+      ap (λ (r : List B). f a ∷ r) (front-all k n l m (omega arith) (omega arith) (omega arith))

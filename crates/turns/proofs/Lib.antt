@@ -9,6 +9,7 @@ pub mod Charge
 pub mod Invariant
 pub mod Ranked
 pub mod Choose
+pub mod Remembered
 pub mod Rows
 pub mod Stage
 pub mod Sweep

@@ -1,16 +1,21 @@
 -- The theorem that ties the code to the rules: the cores that the empty one and the calls make, each call by the function that the
 -- contracts cite, show exactly the cards that the rules make of the same calls, and are what those cards are written as. So whatever
 -- is proved of the rules' cards holds of every core that a host can hold. Assumes nothing.
+use Prim.Native.Nat.{_≤_}
 use mathlib.Core.Path.{_≡_, refl, ap, sym, _∙_, subst}
 use mathlib.Core.List.{List, [], _∷_}
 use mathlib.Core.Option.{Option, none, some}
+use native.Mathlib.Omega.{arith}
+use lib.ListN.{length}
 use Rattle.units.specs.declared.Moment.{Moment}
 use Rattle.rules.specs.Card.{Card, empty}
 use Rattle.rules.specs.Refuse.{refusal}
 use Rattle.rules.specs.Refuse.{Refusal as Row}
-use Rattle.rules.specs.Turn.{turn, answered, settled, afterChange}
+use Rattle.rules.specs.Turn.{turn, answered, accepted, settled, afterChange, rememberedThen}
+use Rattle.rules.specs.Meaning.{Meaning}
 use Rattle.rules.proofs.Accepted.{Passed, passed}
 use Rattle.rules.proofs.Reached.{card-accepted}
+use Rattle.rules.proofs.Meaning.{meaning}
 use Rattle.rules.specs.History.{after}
 use Rattle.turns.specs.declared.Core.{Core}
 use Rattle.turns.specs.declared.Change.{Change}
@@ -29,14 +34,21 @@ module _ (c : Core) (r : SoundCore c) (now : Moment) (change : Change) (e : refu
   meets : Passed (card c) (now .0) (asked change)
   meets = passed (card c) (now .0) (asked change) e
 
-  next-card : settled (now .0) (afterChange (card c) (callOf now change)) ≡ after (callOf now change ∷ r .calls)
+  next-card : accepted (card c) (callOf now change) ≡ after (callOf now change ∷ r .calls)
   next-card = sym (card-accepted (card c) (callOf now change) e) ∙ ap (λ (k : Card). (turn k (callOf now change)) .card) (r .shows)
 
   pub next-between : Between (now .0) (afterChange (card c) (callOf now change))
   unfolding settled
   next-between =
-      between-at (settled (now .0) (afterChange (card c) (callOf now change))) (callOf now change ∷ r .calls) next-card
+      between-at (accepted (card c) (callOf now change)) (callOf now change ∷ r .calls) next-card
       (change-ranked (card c) (now .0) change (meets .asked-for) (r .ranked))
+
+  -- and few are remembered then
+  pub next-few : length (rememberedThen (card c) (callOf now change)) ≤ 32
+  unfolding settled
+  next-few =
+      let m : Meaning (accepted (card c) (callOf now change)) = subst Meaning (sym next-card) (meaning (callOf now change ∷ r .calls)) in
+      omega (arith, m .few-together)
 
 -- one call: the core handed back is sound, and shows the card that the rules hand back
 pub record OneCall (c : Core) (now : Moment) (change : Change) : Type 0 where
@@ -54,14 +66,15 @@ one-call c r now change =
     sound : (o : Option Row) → refusal (card c) (now .0) (asked change) ≡ o
         → SoundCore (coreOf ((answered (card c) (callOf now change) o) .card))
     sound none e = core-sound (now .0) (afterChange (card c) (callOf now change)) (meets c r now change e .not-above)
-        (next-between c r now change e) (callOf now change ∷ r .calls) (next-card c r now change e)
+        (next-between c r now change e) (rememberedThen (card c) (callOf now change)) (next-few c r now change e)
+        (callOf now change ∷ r .calls) (next-card c r now change e)
     sound (some x) e = subst SoundCore (r .written) r
 
     shows : (o : Option Row) → refusal (card c) (now .0) (asked change) ≡ o
         → card (coreOf ((answered (card c) (callOf now change) o) .card)) ≡
         (answered (card c) (callOf now change) o) .card
     shows none e = shown-again (now .0) (afterChange (card c) (callOf now change)) (meets c r now change e .not-above)
-        (next-between c r now change e)
+        (next-between c r now change e) (rememberedThen (card c) (callOf now change)) (next-few c r now change e)
     shows (some x) e = ap card (sym (r .written))
 
 pub record MadeSo (l : List Asking) : Type 0 where

@@ -61,8 +61,10 @@ pub tick-one : OneReply 0 tick.ps tick.r tick-promise.Post
 tick-one κs args a b x y p q = answer-one (args .0) (args .1 .0) Tick a b p q
 
 pub look-one : OneReply 0 look.ps look.r look-promise.Post
-look-one κs args a b x y p q = same-look a b (p .0 ∙ sym (q .0)) (p .1 .0 ∙ sym (q .1 .0)) (p .1 .1 ∙ sym (q .1 .1))
+look-one κs args a b x y p q =
+    same-look a b (p .0 ∙ sym (q .0)) (p .1 .0 ∙ sym (q .1 .0)) (p .1 .1 .0 ∙ sym (q .1 .1 .0)) (p .1 .1 .1 ∙ sym (q .1 .1 .1))
 
 pub status-one : OneReply 0 status.ps status.r status-promise.Post
 status-one κs args a b x y p q =
-    same-status a b (p .0 .0 ∙ sym (q .0 .0)) (p .0 .1 ∙ sym (q .0 .1)) (p .1 .0 ∙ sym (q .1 .0)) (p .1 .1 ∙ sym (q .1 .1))
+    same-status a b (p .0 .0 ∙ sym (q .0 .0)) (p .0 .1 ∙ sym (q .0 .1)) (p .1 .0 .0 ∙ sym (q .1 .0 .0)) (p .1 .0 .1 ∙ sym (q .1 .0 .1))
+    (p .1 .1 ∙ sym (q .1 .1))

@@ -22,14 +22,14 @@ use Rattle.turns.specs.declared.Change.{Change}
 use Rattle.turns.specs.declared.Core.{Core}
 use Rattle.turns.specs.declared.Look.{Look}
 use Rattle.turns.specs.declared.Presence.{Presence}
-use Rattle.turns.specs.declared.Presence.the-variants.{OnCard, Absent}
+use Rattle.turns.specs.declared.Presence.the-variants.{OnCard, Remembered, Absent}
 use Rattle.turns.specs.declared.Boundary.{Boundary}
 use Rattle.turns.specs.declared.Boundary.the-variants.{Unset as NoBoundary, At as NextAt}
 use Rattle.turns.specs.declared.Status.{Status}
 use Rattle.turns.specs.declared.Vcpu.{Vcpu}
 use Rattle.turns.specs.Written.{card, coreOf}
 use Rattle.turns.specs.Calls.{callOf, holderSaid, paperHolder, paperPresence, paperReply, paperTimer, replySaid, timerSaid, turned}
-use Rattle.turns.specs.Calls.{paperBoundary}
+use Rattle.turns.specs.Calls.{paperBoundary, paperRemembered}
 
 pub paper-holder : (o : Option ℕ) → paperHolder (holderSaid o) ≡ o
 paper-holder none = refl
@@ -85,23 +85,28 @@ whole-answer c now change a p q = same (a .core) _ (a .reply) _ q (sym (said-pap
 
 -- and what the status promises, the whole status
 pub same-status : (a b : Status) → a .time .0 ≡ b .time .0 → paperHolder (a .run) ≡ paperHolder (b .run)
-    → paperTimer (a .timer) ≡ paperTimer (b .timer) → a .vcpus ≡ b .vcpus → a ≡ b
-same-status a b t h s n =
-    same (a .time .0) (b .time .0) (a .run) (b .run) (a .timer) (b .timer) (a .vcpus) (b .vcpus) t
+    → paperTimer (a .timer) ≡ paperTimer (b .timer) → a .vcpus ≡ b .vcpus → a .remembered ≡ b .remembered → a ≡ b
+same-status a b t h s n m =
+    same (a .time .0) (b .time .0) (a .run) (b .run) (a .timer) (b .timer) (a .vcpus) (b .vcpus) (a .remembered) (b .remembered) t
     (sym (holder-paper (a .run)) ∙ ap holderSaid h ∙ holder-paper (b .run))
-    (sym (timer-paper (a .timer)) ∙ ap timerSaid s ∙ timer-paper (b .timer)) n
+    (sym (timer-paper (a .timer)) ∙ ap timerSaid s ∙ timer-paper (b .timer)) n m
   where
-    same : (t t′ : ℕ) (h h′ : Holder) (s s′ : Timer) (n n′ : ℕ) → t ≡ t′ → h ≡ h′ → s ≡ s′ → n ≡ n′
-        → _≡_ {A = Status} (record { time = moment t; run = h; timer = s; vcpus = n })
-        (record { time = moment t′; run = h′; timer = s′; vcpus = n′ })
-    same t t′ h h′ s s′ n n′ p q v w = rw (p, q, v, w)
+    same : (t t′ : ℕ) (h h′ : Holder) (s s′ : Timer) (n n′ m m′ : ℕ) → t ≡ t′ → h ≡ h′ → s ≡ s′ → n ≡ n′ → m ≡ m′
+        → _≡_ {A = Status} (record { time = moment t; run = h; timer = s; vcpus = n; remembered = m })
+        (record { time = moment t′; run = h′; timer = s′; vcpus = n′; remembered = m′ })
+    same t t′ h h′ s s′ n n′ m m′ p q v w x = rw (p, q, v, w, x)
 
 -- what a look promises, the whole look
-same-presence : (a b : Presence) → paperPresence a ≡ paperPresence b → a ≡ b
-same-presence OnCard OnCard e = refl
-same-presence OnCard Absent e = clash e
-same-presence Absent OnCard e = clash (sym e)
-same-presence Absent Absent e = refl
+same-presence : (a b : Presence) → paperPresence a ≡ paperPresence b → paperRemembered a ≡ paperRemembered b → a ≡ b
+same-presence OnCard OnCard e f = refl
+same-presence OnCard (Remembered n) e f = clash e
+same-presence OnCard Absent e f = clash e
+same-presence (Remembered m) OnCard e f = clash (sym e)
+same-presence (Remembered m) (Remembered n) e f = let g : m .0 ≡ n .0 = cc in ap (λ (t : ℕ). Remembered (moment t)) g
+same-presence (Remembered m) Absent e f = no-some (sym f)
+same-presence Absent OnCard e f = clash (sym e)
+same-presence Absent (Remembered n) e f = no-some f
+same-presence Absent Absent e f = refl
 
 same-boundary : (a b : Boundary) → paperBoundary a ≡ paperBoundary b → a ≡ b
 same-boundary NoBoundary NoBoundary e = refl
@@ -109,11 +114,12 @@ same-boundary NoBoundary (NextAt m) e = no-some e
 same-boundary (NextAt m) NoBoundary e = no-some (sym e)
 same-boundary (NextAt m) (NextAt n) e = let f : m .0 ≡ n .0 = cc in ap (λ (t : ℕ). NextAt (moment t)) f
 
-pub same-look : (a b : Look) → paperPresence (a .presence) ≡ paperPresence (b .presence) → a .vcpu ≡ b .vcpu
+pub same-look : (a b : Look) → paperPresence (a .presence) ≡ paperPresence (b .presence)
+    → paperRemembered (a .presence) ≡ paperRemembered (b .presence) → a .vcpu ≡ b .vcpu
     → paperBoundary (a .boundary) ≡ paperBoundary (b .boundary) → a ≡ b
-same-look a b p q r =
+same-look a b p m q r =
     same (a .presence) (b .presence) (a .vcpu) (b .vcpu) (a .boundary) (b .boundary)
-    (same-presence (a .presence) (b .presence) p) q (same-boundary (a .boundary) (b .boundary) r)
+    (same-presence (a .presence) (b .presence) p m) q (same-boundary (a .boundary) (b .boundary) r)
   where
     same : (x x′ : Presence) (v v′ : Vcpu) (n n′ : Boundary) → x ≡ x′ → v ≡ v′ → n ≡ n′
         → _≡_ {A = Look} (record { presence = x; vcpu = v; boundary = n }) (record { presence = x′; vcpu = v′; boundary = n′ })

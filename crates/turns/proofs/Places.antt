@@ -4,6 +4,7 @@ use Prim.Native.Nat.{ℕ, zero, suc, _≤_, _<_}
 use mathlib.Core.Path.{_≡_, refl, ap, sym, _∙_, subst}
 use mathlib.Core.Bool.{Bool, true, false, cond, not, _||_}
 use mathlib.Core.List.{List, [], _∷_}
+use mathlib.Core.Option.{some}
 use native.Mathlib.Omega.{arith}
 use lib.Dec.{ltb, eqb}
 use lib.ListN.{length, getD, set}
@@ -15,12 +16,12 @@ use Rattle.rules.specs.Limits.{largestTunnel}
 use Rattle.rules.specs.Vcpu.{moreUrgent, named}
 use Rattle.rules.specs.Vcpu.{Description as Terms}
 use Rattle.rules.specs.Vcpu.{Vcpu as Tenant}
-use Rattle.rules.specs.Card.{onCard, toNamed}
+use Rattle.rules.specs.Card.{onCard, find, toNamed}
 use Rattle.rules.specs.Change.{placed}
 use Rattle.rules.proofs.Tests.{clash}
 use Rattle.turns.specs.declared.Vcpu.{Vcpu}
 use Rattle.turns.specs.Laid.{laid}
-use Rattle.turns.specs.Written.{nobody, tunnelOf, written, place}
+use Rattle.turns.specs.Written.{nobody, tunnelOf, written, noTenant, place}
 use Rattle.turns.proofs.Invariant.{Distinct, termsOf}
 use Rattle.turns.specs.Places.{seek, urgency, spotIn}
 use Rattle.turns.proofs.Laid.{putAt, cutAt}
@@ -34,6 +35,15 @@ place-there t (v ∷ vs) e = go (named t v) e (place-there t vs)
         → cond b 0 (suc (place t vs)) < suc (length vs)
     go true f rec = omega arith
     go false f rec = let h : place t vs < length vs = rec f in omega arith
+
+pub find-there : (t : ℕ) (vs : List Tenant) → onCard t vs ≡ true → find t vs ≡ some (getD vs (place t vs) noTenant)
+find-there t [] e = clash (sym e)
+find-there t (v ∷ vs) e = go (named t v) e (find-there t vs)
+  where
+    go : (b : Bool) → b || onCard t vs ≡ true → (onCard t vs ≡ true → find t vs ≡ some (getD vs (place t vs) noTenant))
+        → cond b (some v) (find t vs) ≡ some (getD (v ∷ vs) (cond b 0 (suc (place t vs))) noTenant)
+    go true f rec = refl
+    go false f rec = rec f
 
 pub seek-laid : (t : ℕ) (k : ℕ) (vs : List Tenant) → t ≤ largestTunnel → length vs ≤ k
     → seek t (laid k tunnelOf (tunnel nobody) vs) ≡ cond (onCard t vs) (place t vs) k

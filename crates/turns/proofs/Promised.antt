@@ -18,9 +18,11 @@ use Rattle.rules.specs.Meaning.{Meaning}
 use Rattle.rules.specs.Rows.{Table, NoRow}
 use Rattle.rules.specs.Budgets.{Budgets}
 use Rattle.rules.specs.Marks.{Marks}
+use Rattle.rules.specs.Leaving.{Leaving}
 use Rattle.rules.specs.History.{Exchange, after, heard}
 use Rattle.rules.specs.Demand3.{ItsStay}
-use Rattle.rules.proofs.Rows.{table}
+use Rattle.rules.proofs.Rows.{table-after}
+use Rattle.rules.proofs.Leaving.{leaving}
 use Rattle.rules.proofs.Marks.{marks}
 use Rattle.rules.proofs.Budgets.{budgets}
 use Rattle.rules.proofs.Meaning.{meaning}
@@ -50,6 +52,9 @@ module _ (calls : List Asking) (now : Moment) (change : Change) where
   abbrev answer : Answer
   answer = turned (made calls) now change
 
+  table : Table old call
+  table = subst (λ (k : Card). Table k call) (sym (made-so calls .shows)) (table-after (callsOf calls) call)
+
   -- the reply's number and values are the rules'
   paper : paperReply (answer .reply) ≡ (turn old call) .reply
   unfolding turned
@@ -73,17 +78,14 @@ module _ (calls : List Asking) (now : Moment) (change : Change) where
   told-so r e = reply-accepted old call (reported r e)
 
   no-row : (r : Report) → answer .reply ≡ Done r → NoRow old call
-  no-row r e = (table old call .accepts) .0 (told-so r e)
+  no-row r e = (table .accepts) .0 (told-so r e)
 
   shown : card (answer .core) ≡ (turn old call) .card
   shown = one-call (made calls) (made-so calls .sound) now change .shows
 
-  -- a fact of the VCPUs before and after, carried from the rules' cards to those shown
-  carried : (P : Card → List Tenant → Type 0) → P (after (callsOf calls)) (after (call ∷ callsOf calls) .vcpus)
-      → P old (card (answer .core) .vcpus)
-  carried P p =
-      subst (λ (k : Card). P old (k .vcpus)) (sym shown)
-      (subst (λ (k : Card). P k ((turn k call) .card .vcpus)) (sym (made-so calls .shows)) p)
+  -- a fact of the card before and the card after, carried from the rules' cards to those shown
+  carried : (P : Card → Card → Type 0) → P (after (callsOf calls)) (after (call ∷ callsOf calls)) → P old (card (answer .core))
+  carried P p = subst (P old) (sym shown) (subst (λ (k : Card). P k ((turn k call) .card)) (sym (made-so calls .shows)) p)
 
   none-after : NoRow old call → NoRow (after (callsOf calls)) call
   none-after n = subst (λ (k : Card). NoRow k call) (made-so calls .shows) n
@@ -93,18 +95,18 @@ module _ (calls : List Asking) (now : Moment) (change : Change) where
   next =
       record {
         refuses = λ x. (
-          λ e. (table old call .refuses (x .number) (x .detail)) .0 (sym paper ∙ ap paperReply e),
-          λ f. replied (No x) ((table old call .refuses (x .number) (x .detail)) .1 f),
+          λ e. (table .refuses (x .number) (x .detail)) .0 (sym paper ∙ ap paperReply e),
+          λ f. replied (No x) ((table .refuses (x .number) (x .detail)) .1 f),
         );
         hands-back = λ x e.
-            ap coreOf (table old call .hands-back (record { number = x .number; detail = x .detail }) (sym paper ∙ ap paperReply e))
+            ap coreOf (table .hands-back (record { number = x .number; detail = x .detail }) (sym paper ∙ ap paperReply e))
             ∙ sym (made-so calls .sound .written);
         accepts = (
           λ r. no-row (r .0) (r .1),
           λ n. (
             reportSaid (report (accepted old call)),
             replied (Done (reportSaid (report (accepted old call))))
-                ((table old call .accepts) .1 n ∙ sym (paper-said (ok (report (accepted old call))))),
+                ((table .accepts) .1 n ∙ sym (paper-said (ok (report (accepted old call))))),
           ),
         );
         then = λ r e.
@@ -112,9 +114,11 @@ module _ (calls : List Asking) (now : Moment) (change : Change) where
             record {
               five-steps = steps;
               reports = paper ∙ told-so r e ∙ ap (λ (k : Card). ok (report k)) (sym steps);
-              at-now = ap (λ (k : Card). k .last) shown ∙ table old call .at-now (no-row r e);
-              budgets = carried (λ k vs. Budgets k call vs) (budgets (callsOf calls) call (none-after (no-row r e)));
-              marks = carried (λ k vs. Marks (k .vcpus) (now .0) (asked change) vs) (marks (callsOf calls) call (none-after (no-row r e)));
+              at-now = ap (λ (k : Card). k .last) shown ∙ table .at-now (no-row r e);
+              budgets = carried (λ k d. Budgets k call (d .vcpus)) (budgets (callsOf calls) call (none-after (no-row r e)));
+              marks =
+                  carried (λ k d. Marks (k .vcpus) (now .0) (asked change) (d .vcpus)) (marks (callsOf calls) call (none-after (no-row r e)));
+              leaving = carried (λ k d. Leaving k call (d .remembered)) (leaving (callsOf calls) call (none-after (no-row r e)));
             };
       }
 

@@ -14,6 +14,7 @@ use Rattle.rules.specs.Lists.{All}
 use Rattle.rules.specs.Limits.{largestTunnel}
 use Rattle.rules.specs.Vcpu.{named}
 use Rattle.rules.specs.Vcpu.{Vcpu as Tenant}
+use Rattle.rules.specs.Remember.{timeOf}
 use Rattle.rules.specs.Card.{onCard, find}
 use Rattle.rules.proofs.Tests.{clash}
 use Rattle.turns.specs.declared.Kind.the-variants.{Sporadic}
@@ -22,12 +23,12 @@ use Rattle.turns.specs.declared.Core.{Core}
 use Rattle.turns.specs.declared.Holder.the-variants.{Vcpu as Held}
 use Rattle.turns.specs.declared.Holder.the-variants.{Idle as Idle′}
 use Rattle.turns.specs.Written.{idle, nobody, tunnelOf, written, noTenant, card, place, runningAt}
-use Rattle.turns.proofs.Invariant.{SoundCore, between, orderly-formed}
+use Rattle.turns.proofs.Invariant.{SoundCore, between, means, orderly-formed}
 use Rattle.turns.specs.Places.{seek, holderOf}
 use Rattle.turns.specs.Steps.{boundaryIn}
 use Rattle.turns.specs.Calls.{holderSaid, looked, boundaryOf, paperHolder}
 use Rattle.turns.proofs.Laid.{laid-get, laid-length}
-use Rattle.turns.proofs.Places.{place-there, seek-laid}
+use Rattle.turns.proofs.Places.{place-there, find-there, seek-laid}
 use Rattle.rules.proofs.Lists.{all-imp}
 use Rattle.turns.proofs.Written.{Formed, boundary-written}
 use Rattle.turns.proofs.Ranked.{all-get}
@@ -37,15 +38,6 @@ use Rattle.turns.proofs.Stage.{places-are, ids-are}
 on-wide : (t : ℕ) (vs : List Tenant) → largestTunnel < t → All (λ v. v .terms .tunnel ≤ largestTunnel) vs → onCard t vs ≡ false
 on-wide t [] h g = refl
 on-wide t (v ∷ vs) h g = rw (ne-eqb (v .terms .tunnel) t (omega (arith, g .0))) (on-wide t vs h (g .1))
-
-find-there : (t : ℕ) (vs : List Tenant) → onCard t vs ≡ true → find t vs ≡ some (getD vs (place t vs) noTenant)
-find-there t [] e = clash (sym e)
-find-there t (v ∷ vs) e = go (named t v) e (find-there t vs)
-  where
-    go : (b : Bool) → b || onCard t vs ≡ true → (onCard t vs ≡ true → find t vs ≡ some (getD vs (place t vs) noTenant))
-        → cond b (some v) (find t vs) ≡ some (getD (v ∷ vs) (cond b 0 (suc (place t vs))) noTenant)
-    go true f rec = refl
-    go false f rec = rec f
 
 find-absent : (t : ℕ) (vs : List Tenant) → onCard t vs ≡ false → find t vs ≡ none
 find-absent t [] e = refl
@@ -101,6 +93,15 @@ module _ (c : Core) (r : SoundCore c) (t : ℕ) where
                   ∙ ap boundaryOf (sym (find-there t vs e));
             }
         go false e = absurd (omega (arith, sought false e))
+
+    -- who is there is not remembered
+    pub there-known : seek t (c .ids) < 32 → none ≡ timeOf t (card c .remembered)
+    there-known g = go (timeOf t (card c .remembered)) refl (onCard t vs) refl
+      where
+        go : (o : Option ℕ) → timeOf t (card c .remembered) ≡ o → (b : Bool) → onCard t (card c .vcpus) ≡ b → none ≡ o
+        go none f b e = refl
+        go (some u) f true e = absurd (means c r .never-both t u (means c r .time-of t u .0 f) (means c r .on-card t .0 e))
+        go (some u) f false e = absurd (omega (arith, sought false e))
 
     pub absent-sought : 32 ≤ seek t (c .ids) → Sought c t false (written noTenant) none
     absent-sought g = go (onCard t vs) refl

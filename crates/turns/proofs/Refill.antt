@@ -13,10 +13,9 @@ use borrow.Author.Tests.{le-leb}
 use Rattle.units.specs.Units.{moment, amount, later}
 use Rattle.units.specs.declared.Moment.{Moment}
 use Rattle.units.specs.declared.Amount.{Amount}
-use Rattle.rules.specs.Vcpu.{Entry, leaves, admitted}
+use Rattle.rules.specs.Vcpu.{Entry, leaves, admitted, times, comes}
 use Rattle.rules.specs.Vcpu.{Vcpu as Tenant}
 use Rattle.rules.specs.Return.{boundaryAfter, refilled, broughtIn, returned}
-use Rattle.rules.specs.Timer.{times, comes}
 use Rattle.turns.specs.declared.Description.{Description}
 use Rattle.turns.specs.declared.Kind.{Kind}
 use Rattle.turns.specs.declared.Vcpu.{Vcpu}

@@ -13,10 +13,9 @@ use Rattle.units.specs.Units.{moment, amount, tunnel}
 use Rattle.units.specs.declared.Moment.{Moment}
 use Rattle.units.specs.declared.Amount.{Amount}
 use Rattle.rules.specs.Lists.{sum}
-use Rattle.rules.specs.Vcpu.{Entry}
+use Rattle.rules.specs.Vcpu.{Entry, times, comes}
 use Rattle.rules.specs.Vcpu.{Vcpu as Tenant}
 use Rattle.rules.specs.Return.{returned, refill, broughtIn, brought, still}
-use Rattle.rules.specs.Timer.{times, comes}
 use Rattle.rules.proofs.Tests.{clash}
 use Rattle.turns.specs.declared.Kind.{Kind}
 use Rattle.turns.specs.declared.Kind.the-variants.{Sporadic, Deferrable, Polling}

@@ -1,6 +1,6 @@
 -- The code's verdict on a written table is the rules' refusal, and one that an accepted call names stands at its place.
 -- Assumes nothing.
-use Prim.Native.Nat.{ℕ, _≤_}
+use Prim.Native.Nat.{ℕ, _+_, _≤_, _<_}
 use mathlib.Core.Path.{_≡_, refl, ap, _∙_}
 use mathlib.Core.Bool.{Bool, true, false, cond, not}
 use mathlib.Core.List.{List}
@@ -15,20 +15,23 @@ use Rattle.units.specs.declared.Tunnel.{Tunnel}
 use Rattle.rules.specs.Limits.{largestTime, largestTunnel, largestKind, mostVcpus, inRange}
 use Rattle.rules.specs.Vcpu.{Vcpu as Tenant}
 use Rattle.rules.specs.Card.{Card, onCard}
-use Rattle.rules.specs.Refuse.{row, rowLate, admitRows, namingRows, callRows, refusal}
+use Rattle.rules.specs.Remember.{Remembered, kept, timeOf}
+use Rattle.rules.specs.Refuse.{row, rowLate, rowRemembered, admitRows, namingRows, callRows, refusal}
 use Rattle.rules.specs.Refuse.{Refusal as Row}
 use Rattle.rules.proofs.Accepted.{row-passed}
 use Rattle.turns.specs.declared.Verdict.{Verdict}
-use Rattle.turns.specs.declared.Verdict.the-variants.{Accept}
+use Rattle.turns.specs.declared.Verdict.the-variants.{Accept, Refuse}
 use Rattle.turns.specs.declared.Description.{Description}
 use Rattle.turns.specs.declared.Change.{Change}
 use Rattle.turns.specs.declared.Change.the-variants.{Admit, Wake, Block, Remove, Tick}
 use Rattle.turns.specs.Laid.{laid}
-use Rattle.turns.specs.Written.{never, nobody, tunnelOf, place, timerOf}
+use Rattle.turns.specs.Written.{never, nobody, tunnelOf, place, timerOf, memoryOf}
 use Rattle.turns.specs.Places.{seek, nowhere, namedAt}
-use Rattle.turns.specs.Judge.{refuse, verdictRow, judgeAdmit, judgeNaming, judgeCall, judge}
+use Rattle.turns.specs.Remembered.{Below, timeIn}
+use Rattle.turns.specs.Judge.{refuse, verdictRow, judgeTerms, judgePlace, judgeAdmit, judgeNaming, judgeCall, judge}
 use Rattle.turns.specs.Calls.{described, asked}
 use Rattle.turns.proofs.Places.{place-there, seek-laid}
+use Rattle.turns.proofs.Remembered.{memory-shown, below-time}
 
 abbrev pub verdictOf : Option Row → Verdict
 verdictOf none = Accept
@@ -39,8 +42,35 @@ row-same : (b : Bool) (n d : ℕ) (x : Verdict) (o : Option Row) → (b ≡ fals
 row-same true n d x o h = refl
 row-same false n d x o h = h refl
 
+-- the rows of what an admit asks for, judged alone, and then those of its place
+abbrev pub unless : Verdict → Verdict → Verdict
+unless Accept below = below
+unless (Refuse x) below = Refuse x
+
+pub terms-then : (d : Description) (below : Verdict) → judgeTerms d below ≡ unless (judgeTerms d Accept) below
+unfolding judgeTerms
+terms-then d below =
+    go (ltb largestTunnel (d .tunnel .0)) (not (inRange (d .period .0))) (eqb (d .capacity .0) 0) (ltb (d .period .0) (d .capacity .0))
+    (ltb largestKind (d .kind))
+  where
+    go : (a b c e f : Bool)
+        → verdictRow a 4 0 (verdictRow b 5 0 (verdictRow c 11 0 (verdictRow e 12 0 (verdictRow f 10 0 below))))
+        ≡ unless (verdictRow a 4 0 (verdictRow b 5 0 (verdictRow c 11 0 (verdictRow e 12 0 (verdictRow f 10 0 Accept))))) below
+    go true b c e f = refl
+    go false true c e f = refl
+    go false false true e f = refl
+    go false false false true f = refl
+    go false false false false true = refl
+    go false false false false false = refl
+
 abbrev pub idsOf : List Tenant → List Tunnel
 idsOf vs = laid 32 tunnelOf (tunnel nobody) vs
+
+-- row 9, of times that lie below the one above all
+remembered-same : (o : Option ℕ) (x : Verdict) (below : Option Row) → ((t : ℕ) → o ≡ some t → t < never) → x ≡ verdictOf below
+    → verdictRow (ltb (timerOf o) never) 9 (timerOf o) x ≡ verdictOf (rowRemembered o below)
+remembered-same none x below h e = e
+remembered-same (some t) x below h e = rw (lt-ltb t never (h t refl))
 
 module _ (vs : List Tenant) (few : length vs ≤ 32) where
   -- a narrow identifier stands at its place, or nowhere
@@ -58,46 +88,60 @@ module _ (vs : List Tenant) (few : length vs ≤ 32) where
       inner true e g = rw (g, lt-leb nowhere (place t vs) (omega (arith, place-there t vs e)))
       inner false e g = rw g
 
-  admit-same : (d : Description) → judgeAdmit (seek (d .tunnel .0) (idsOf vs)) (length vs) d ≡ verdictOf (admitRows vs (described d))
-  unfolding judgeAdmit
+module _ (vs : List Tenant) (rs : List Remembered) (few : length vs ≤ 32) (few-rs : length rs ≤ 32) (below : Below rs) where
+  admit-same : (d : Description)
+      → judgeAdmit (seek (d .tunnel .0) (idsOf vs)) (length vs) (memoryOf rs) d ≡ verdictOf (admitRows vs rs (described d))
+  unfolding judgeTerms judgePlace
   admit-same d =
       row-same (ltb largestTunnel t) 4 0 _ _
       (λ f. row-same (not (inRange (d .period .0))) 5 0 _ _
       (λ g. row-same (eqb (d .capacity .0) 0) 11 0 _ _
       (λ g. row-same (ltb (d .period .0) (d .capacity .0)) 12 0 _ _
       (λ g. row-same (ltb largestKind (d .kind)) 10 0 _ _
-      (λ g. inner (onCard t vs) refl (sought t (onCard t vs) f refl))))))
+      (λ g. inner (onCard t vs) refl (sought vs few t (onCard t vs) f refl))))))
     where
       t : ℕ
       t = d .tunnel .0
 
       inner : (b : Bool) → onCard (d .tunnel .0) vs ≡ b → seek (d .tunnel .0) (idsOf vs) ≡ cond b (place (d .tunnel .0) vs) nowhere
-          → verdictRow (ltb (seek (d .tunnel .0) (idsOf vs)) nowhere) 6 0 (verdictRow (leb mostVcpus (length vs)) 8 0 Accept)
-          ≡ verdictOf (row b 6 0 (row (leb mostVcpus (length vs)) 8 0 none))
+          → verdictRow (ltb (seek (d .tunnel .0) (idsOf vs)) nowhere) 6 0
+          (verdictRow (ltb (timeIn (d .tunnel .0) (memoryOf rs)) never) 9 (timeIn (d .tunnel .0) (memoryOf rs))
+          (verdictRow (leb mostVcpus (length vs + length rs)) 8 0 Accept))
+          ≡ verdictOf (row b 6 0 (rowRemembered (timeOf (d .tunnel .0) rs) (row (leb mostVcpus (length vs + length rs)) 8 0 none)))
       inner true e g = rw (g, lt-ltb (place (d .tunnel .0) vs) nowhere (omega (arith, place-there (d .tunnel .0) vs e)))
-      inner false e g = rw g (row-same (leb mostVcpus (length vs)) 8 0 Accept none (λ f. refl))
+      inner false e g =
+          rw (g, memory-shown rs few-rs)
+          (remembered-same (timeOf (d .tunnel .0) rs) (verdictRow (leb mostVcpus (length vs + length rs)) 8 0 Accept)
+          (row (leb mostVcpus (length vs + length rs)) 8 0 none) (below-time rs below (d .tunnel .0))
+          (row-same (leb mostVcpus (length vs + length rs)) 8 0 Accept none (λ f. refl)))
 
-  call-same : (change : Change) → judgeCall (namedAt (idsOf vs) change) (length vs) change ≡ verdictOf (callRows vs (asked change))
+  call-same : (change : Change)
+      → judgeCall (namedAt (idsOf vs) change) (length vs) (memoryOf rs) change ≡ verdictOf (callRows vs rs (asked change))
   call-same (Admit d) = admit-same d
-  call-same (Wake t) = naming-same (t .0)
-  call-same (Block t) = naming-same (t .0)
-  call-same (Remove t) = naming-same (t .0)
+  call-same (Wake t) = naming-same vs few (t .0)
+  call-same (Block t) = naming-same vs few (t .0)
+  call-same (Remove t) = naming-same vs few (t .0)
   call-same Tick = refl
 
-module _ (k : Card) (now : Moment) (change : Change) (few : length (k .vcpus) ≤ 32) where
+module _ (k : Card) (now : Moment) (change : Change) (few : length (k .vcpus) ≤ 32) (few-rs : length (kept (now .0) (k .remembered)) ≤ 32)
+    (below : Below (kept (now .0) (k .remembered))) where
   abbrev asks : Verdict
-  asks = judgeCall (namedAt (idsOf (k .vcpus)) change) (length (k .vcpus)) change
+  asks = judgeCall (namedAt (idsOf (k .vcpus)) change) (length (k .vcpus)) (memoryOf (kept (now .0) (k .remembered))) change
 
   abbrev rows : Option Row
-  rows = callRows (k .vcpus) (asked change)
+  rows = callRows (k .vcpus) (kept (now .0) (k .remembered)) (asked change)
+
+  call : asks ≡ verdictOf rows
+  call = call-same (k .vcpus) (kept (now .0) (k .remembered)) few few-rs below change
 
   late-same : (o : Option ℕ) → now .0 ≤ largestTime
       → verdictRow (ltb (timerOf o) (now .0)) 3 (timerOf o) asks ≡ verdictOf (rowLate o (now .0) rows)
-  late-same none h = rw (le-ltb never (now .0) (omega arith)) (call-same (k .vcpus) few change)
-  late-same (some t) h = row-same (ltb t (now .0)) 3 t asks rows (λ f. call-same (k .vcpus) few change)
+  late-same none h = rw (le-ltb never (now .0) (omega arith)) call
+  late-same (some t) h = row-same (ltb t (now .0)) 3 t asks rows (λ f. call)
 
   pub judge-same :
-      judge (moment (k .last)) (moment (timerOf (k .timer))) (namedAt (idsOf (k .vcpus)) change) (length (k .vcpus)) now change
+      judge (moment (k .last)) (moment (timerOf (k .timer))) (namedAt (idsOf (k .vcpus)) change) (length (k .vcpus))
+      (memoryOf (kept (now .0) (k .remembered))) now change
       ≡ verdictOf (refusal k (now .0) (asked change))
   unfolding judge refusal
   judge-same =

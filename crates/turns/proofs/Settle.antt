@@ -14,13 +14,13 @@ use Rattle.units.specs.declared.Moment.{Moment}
 use Rattle.units.specs.declared.Tunnel.{Tunnel}
 use Rattle.rules.specs.Lists.{keep, All}
 use Rattle.rules.specs.Limits.{largestTime, largestPeriod}
-use Rattle.rules.specs.Vcpu.{Entry}
+use Rattle.rules.specs.Vcpu.{Entry, times, comes}
 use Rattle.rules.specs.Vcpu.{Vcpu as Tenant}
 use Rattle.rules.specs.Card.{Card, empty}
 use Rattle.rules.specs.Choose.{ready, choose, runs, usableOf}
-use Rattle.rules.specs.Timer.{earlier, earliest, times, comes, nexts, runnable, above, timer}
-use Rattle.rules.specs.Turn.{settled, report, answered, turn, ok, afterReturn}
-use Rattle.rules.specs.Change.{change as changeRule}
+use Rattle.rules.specs.Timer.{earlier, earliest, nexts, runnable, above, timer}
+use Rattle.rules.specs.Remember.{Remembered}
+use Rattle.rules.specs.Turn.{settled, report, answered, accepted, turn, ok}
 use Rattle.rules.specs.Refuse.{refusal}
 use Rattle.rules.specs.Refuse.{Refusal as Row}
 use Rattle.units.specs.declared.Amount.{Amount}
@@ -39,11 +39,12 @@ use Rattle.rules.proofs.Queue.{Rising, rising-wide}
 use Rattle.rules.proofs.Sound.{Sound}
 use Rattle.rules.proofs.Timer.{in-idle, while-running}
 use Rattle.turns.specs.declared.Vcpu.{Vcpu}
+use Rattle.turns.specs.declared.Memory.{Memory}
 use Rattle.turns.specs.declared.Core.{Core}
 use Rattle.turns.specs.declared.Pick.{Pick}
 use Rattle.turns.specs.declared.Holder.the-variants.{Vcpu as Held}
 use Rattle.turns.specs.Written.{never, idle, nobody, tunnelOf, written, noTenant, card}
-use Rattle.turns.specs.Written.{coreOf, place, placeOf, timerOf, timerAt, runningAt, tenants}
+use Rattle.turns.specs.Written.{coreOf, place, placeOf, timerOf, timerAt, runningAt, tenants, memories, memoryOf}
 use Rattle.turns.proofs.Invariant.{Ranked, termsOf, SoundCore, Between, orderly-formed}
 use Rattle.turns.specs.Steps.{picks, pickedOf, timerFor}
 use Rattle.turns.specs.Places.{holderOf}
@@ -52,6 +53,7 @@ use Rattle.turns.proofs.Laid.{laid-get, laid-front}
 use Rattle.turns.proofs.Written.{Formed, queue, refills, tenants-laid}
 use Rattle.turns.proofs.Ranked.{all-get}
 use Rattle.turns.proofs.Choose.{Rises, Calm, nexts-most, idleWith, pickFor, scan}
+use Rattle.turns.proofs.Remembered.{memory-shown, time-back}
 use Rattle.turns.proofs.Rows.{idsOf}
 use Rattle.turns.proofs.Stage.{placesOf, Filled, all-show, all-fit, At, chosen-at}
 
@@ -68,7 +70,7 @@ module _ (now : ℕ) (v : Tenant) (l : now ≤ largestTime) (s : Sound now v) wh
   formed : Formed v
   formed = orderly-formed (suc now) (now + v .terms .period) now v s
 
-  calm-one : Calm v
+  pub calm-one : Calm v
   calm-one = record { rises = go formed; formed = formed }
     where
       go : Formed v → Rises 0 (comes v)
@@ -122,11 +124,7 @@ module _ (now : ℕ) (vs : List Tenant) (l : now ≤ largestTime) (r : Between n
           omega (arith, w .2 .in-time, usable-small v a)
 
   timer-back : timerAt (timerOf (timer now vs (choose vs))) ≡ timer now vs (choose vs)
-  timer-back = go (timer now vs (choose vs)) (λ t e. timer-below t e)
-    where
-      go : (o : Option ℕ) → ((t : ℕ) → o ≡ some t → t < never) → timerAt (timerOf o) ≡ o
-      go none h = refl
-      go (some t) h = rw (ne-eqb t never (λ e. (let g : t < never = h t refl in omega arith)))
+  timer-back = time-back (timer now vs (choose vs)) (λ t e. timer-below t e)
 
   running-back : runningAt (placeOf (runs (choose vs)) vs) (idsOf vs) ≡ runs (choose vs)
   running-back = go (choose vs) refl
@@ -140,31 +138,29 @@ module _ (now : ℕ) (vs : List Tenant) (l : now ≤ largestTime) (r : Between n
           (a .inside) (r .few)) ∙ ap (λ (x : Tenant). some (x .terms .tunnel)) (a .is))
 
   -- what is written is shown again
-  pub shown-again : card (coreOf (settled now vs)) ≡ settled now vs
+  pub shown-again : (rs : List Remembered) → length rs ≤ 32 → card (coreOf (settled now vs rs)) ≡ settled now vs rs
   unfolding card coreOf settled
-  shown-again =
+  shown-again rs few =
       same (runningAt (placeOf (runs (choose vs)) vs) (idsOf vs)) (timerAt (timerOf (timer now vs (choose vs))))
-      (tenants (length vs) (idsOf vs) (placesOf vs))
+      (tenants (length vs) (idsOf vs) (placesOf vs)) (memories (memoryOf rs))
       running-back timer-back (tenants-laid (tunnel nobody) (written noTenant) 32 vs (r .few) (all-show vs (all-fit now vs (r .each))))
+      (memory-shown rs few)
     where
-      same : (a : Option ℕ) (b : Option ℕ) (c : List Tenant) → a ≡ runs (choose vs) → b ≡ timer now vs (choose vs) → c ≡ vs
-          → _≡_ {A = Card} (record { last = now; running = a; timer = b; vcpus = c }) (record {
-            last = now;
-            running = runs
-                (choose vs);
-            timer = timer now vs (choose vs);
-            vcpus = vs;
-          })
-      same a b c p q s = rw (p, q, s)
+      same : (a : Option ℕ) (b : Option ℕ) (c : List Tenant) (d : List Remembered) → a ≡ runs (choose vs) → b ≡ timer now vs (choose vs)
+          → c ≡ vs → d ≡ rs
+          → _≡_ {A = Card} (record { last = now; running = a; timer = b; vcpus = c; remembered = d })
+          (record { last = now; running = runs (choose vs); timer = timer now vs (choose vs); vcpus = vs; remembered = rs })
+      same a b c d p q s t = rw (p, q, s, t)
 
-  pub core-sound : (calls : List Call) → settled now vs ≡ after calls → SoundCore (coreOf (settled now vs))
+  pub core-sound : (rs : List Remembered) → length rs ≤ 32 → (calls : List Call) → settled now vs rs ≡ after calls
+      → SoundCore (coreOf (settled now vs rs))
   unfolding settled
-  core-sound calls e =
+  core-sound rs few calls e =
       record {
-        written = ap coreOf (sym shown-again);
+        written = ap coreOf (sym (shown-again rs few));
         calls = calls;
-        shows = shown-again ∙ e;
-        ranked = subst (λ (k : Card). Ranked (termsOf (k .vcpus))) (sym shown-again) (r .ranked);
+        shows = shown-again rs few ∙ e;
+        ranked = subst (λ (k : Card). Ranked (termsOf (k .vcpus))) (sym (shown-again rs few)) (r .ranked);
       }
 
   seat-found : (pickFor never 0 vs (choose vs)) .at ≡ placeOf (runs (choose vs)) vs
@@ -222,29 +218,28 @@ module _ (now : ℕ) (vs : List Tenant) (l : now ≤ largestTime) (r : Between n
         ∙ ap (picks (idleWith never) 0) (laid-front written (written noTenant) 32 vs (r .few))
         ∙ scan never 0 vs (omega arith) (omega (arith, r .few)) (calm now vs l (r .each)) (r .ranked) (r .distinct)
 
-    core-found : (k : Pick) → k ≡ pickFor never 0 vs (choose vs)
-        → _≡_ {A = Core} (record { places = p; last = moment now; ids = ids; timer = timerFor (moment now) k; running = k .at; n = n })
-        (coreOf
-        (settled now vs))
+    core-found : (rs : List Remembered) (m : Memory) → m ≡ memoryOf rs → (k : Pick) → k ≡ pickFor never 0 vs (choose vs)
+        → _≡_ {A = Core}
+        (record { places = p; last = moment now; ids = ids; timer = timerFor (moment now) k; memory = m; running = k .at; n = n })
+        (coreOf (settled now vs rs))
     unfolding coreOf settled
-    core-found k e =
-        same p ids (timerFor (moment now) k) (k .at) n (f .places) (f .tunnels) (ap (timerFor (moment now)) e ∙ timer-found) (ap (λ
-        (x : Pick). x .at) e ∙ seat-found) (f .count)
+    core-found rs m i k e =
+        same p ids (timerFor (moment now) k) m (k .at) n (f .places) (f .tunnels) (ap (timerFor (moment now)) e ∙ timer-found) i
+        (ap (λ (x : Pick). x .at) e ∙ seat-found) (f .count)
       where
-        same : (p : List Vcpu) (ids : List Tunnel) (t : Moment) (a m : ℕ) → p ≡ placesOf vs → ids ≡ idsOf vs
-            → t ≡ moment (timerOf (timer now vs
-            (choose vs))) → a ≡ placeOf (runs (choose vs)) vs → m ≡ length vs
-            → _≡_ {A = Core} (record { places = p; last = moment now; ids = ids; timer = t; running = a; n = m })
+        same : (p : List Vcpu) (ids : List Tunnel) (t : Moment) (m : Memory) (a n : ℕ) → p ≡ placesOf vs → ids ≡ idsOf vs
+            → t ≡ moment (timerOf (timer now vs (choose vs))) → m ≡ memoryOf rs → a ≡ placeOf (runs (choose vs)) vs → n ≡ length vs
+            → _≡_ {A = Core} (record { places = p; last = moment now; ids = ids; timer = t; memory = m; running = a; n = n })
             (record {
               places = placesOf vs;
               last = moment now;
               ids = idsOf vs;
-              timer = moment (timerOf (timer now vs
-                  (choose vs)));
+              timer = moment (timerOf (timer now vs (choose vs)));
+              memory = memoryOf rs;
               running = placeOf (runs (choose vs)) vs;
               n = length vs;
             })
-        same p ids t a m u v w x y = rw (u, v, w, x, y)
+        same p ids t m a n u v w z x y = rw (u, v, w, z, x, y)
 
 -- one place more of the scan, and its end
 pub scan-step : (k : Pick) (j n : ℕ) (p : List Vcpu) (z : Vcpu) → j < n → n ≤ 32 → length p ≡ 32
@@ -259,10 +254,7 @@ scan-end k j n p h g = let l : length (take n p) ≤ j = omega (arith, length-ta
 -- the whole answer of an accepted call, and of a refused one
 pub turned-accepted : (c : Core) (now : Moment) (change : Change) → refusal (card c) (now .0) (asked change) ≡ none
     → turned c now change
-    ≡ answerOf (record {
-      reply = ok (report (settled (now .0) (changeRule (now .0) (asked change) (afterReturn (card c) (now .0)))));
-      card = settled (now .0) (changeRule (now .0) (asked change) (afterReturn (card c) (now .0)));
-    })
+    ≡ answerOf (record { reply = ok (report (accepted (card c) (callOf now change))); card = accepted (card c) (callOf now change) })
 unfolding turned turn
 turned-accepted c now change e = ap (λ (o : Option Row). answerOf (answered (card c) (callOf now change) o)) e
 
@@ -277,22 +269,22 @@ turned-refused c now change x r e =
 
 pub answer-found : (now : Moment) (vs : List Tenant) → now .0 ≤ largestTime → Between (now .0) vs
     → (p : List Vcpu) (ids : List Tunnel) (n : ℕ) → Filled p ids n vs
+    → (rs : List Remembered) (m : Memory) → m ≡ memoryOf rs
     → (k : Pick) → k ≡ pickFor never 0 vs (choose vs)
     → (t : Moment) → t ≡ timerFor now k → (h : Holder) → h ≡ holderOf ids (k .at) → (s : Timer) → s ≡ timerSaid (timerAt (t .0))
     → _≡_ {A = Answer}
     (record {
-      core = record { places = p; last = now; ids = ids; timer = t; running = k .at; n = n };
-      reply = Done
-          (record { time = now; run = h; usable = k .usable; timer = s });
+      core = record { places = p; last = now; ids = ids; timer = t; memory = m; running = k .at; n = n };
+      reply = Done (record { time = now; run = h; usable = k .usable; timer = s });
     })
-    (answerOf (record { reply = ok (report (settled (now .0) vs)); card = settled (now .0) vs }))
+    (answerOf (record { reply = ok (report (settled (now .0) vs rs)); card = settled (now .0) vs rs }))
 unfolding settled
-answer-found now vs l r p ids n f k e t te h he s se =
-    same (record { places = p; last = now; ids = ids; timer = t; running = k .at; n = n }) (coreOf (settled (now .0) vs)) h
+answer-found now vs l r p ids n f rs m i k e t te h he s se =
+    same (record { places = p; last = now; ids = ids; timer = t; memory = m; running = k .at; n = n }) (coreOf (settled (now .0) vs rs)) h
     (holderSaid (runs
     (choose vs))) (k .usable) (amount (usableOf (choose vs))) s (timerSaid (timer (now .0) vs (choose vs)))
-    (ap (λ (x : Moment). record { places = p; last = now; ids = ids; timer = x; running = k .at; n = n }) te
-    ∙ core-found (now .0) vs l r p ids n f k e)
+    (ap (λ (x : Moment). record { places = p; last = now; ids = ids; timer = x; memory = m; running = k .at; n = n }) te
+    ∙ core-found (now .0) vs l r p ids n f rs m i k e)
     (he ∙ ap (λ (x : Pick). holderOf ids (x .at)) e
     ∙ ap (λ (i : List Tunnel). holderOf i ((pickFor never 0 vs (choose vs)) .at)) (f .tunnels)
     ∙ holder-found (now .0) vs l r)
@@ -310,8 +302,8 @@ empty-between = record { few = omega arith; each = tt; distinct = tt; ranked = t
 
 pub empty-shown : card (coreOf empty) ≡ empty
 unfolding settled timer
-empty-shown = shown-again 0 [] (omega arith) empty-between
+empty-shown = shown-again 0 [] (omega arith) empty-between [] (omega arith)
 
 pub empty-sound : SoundCore (coreOf empty)
 unfolding settled timer
-empty-sound = core-sound 0 [] (omega arith) empty-between [] refl
+empty-sound = core-sound 0 [] (omega arith) empty-between [] (omega arith) [] refl

@@ -1,42 +1,51 @@
--- The change on the written table: a newcomer put in, a mark set, one taken out, or nothing. Assumes nothing.
+-- The change on the written table, and on who is remembered beside it: a newcomer put in, a mark set, one taken out that is remembered
+-- then, or nothing. Assumes nothing.
 use Prim.Native.Nat.{ℕ, zero, suc, _+_, _-_, _≤_, _<_}
 use mathlib.Core.Path.{_≡_, refl, ap, sym, _∙_, subst}
 use mathlib.Core.Bool.{Bool, true, false, cond, not, _||_}
-use mathlib.Core.List.{List, [], _∷_}
-use mathlib.Core.Option.{none}
+use mathlib.Core.List.{List, [], _∷_, _++_, append-nil}
+use mathlib.Core.Option.{Option, none, some}
 use native.Mathlib.Omega.{arith}
 use lib.Dec.{eqb}
 use lib.ListN.{length, getD, set}
 use Rattle.rules.specs.Refuse.{admitRows, namingRows, callRows}
 use Rattle.units.specs.Units.{tunnel}
 use Rattle.units.specs.declared.Tunnel.{Tunnel}
-use Rattle.rules.specs.Limits.{largestPeriod}
-use Rattle.rules.specs.Lists.{keep, any}
+use Rattle.rules.specs.Limits.{largestPeriod, largestTime}
+use Rattle.rules.specs.Lists.{keep, any, All}
 use Rattle.rules.specs.Vcpu.{admitted, named}
 use Rattle.rules.specs.Vcpu.{Description as Terms}
 use Rattle.rules.specs.Vcpu.{Vcpu as Tenant}
-use Rattle.rules.specs.Card.{Card, onCard, toNamed}
-use Rattle.rules.specs.Change.{placed, setRunnable, admit, wake}
+use Rattle.rules.specs.Remember.{Remembered, leavesUntil, remembering, leftBy, kept}
+use Rattle.rules.specs.Card.{Card, onCard, find, toNamed}
+use Rattle.rules.specs.Change.{placed, setRunnable, admit, wake, leaving}
 use Rattle.rules.specs.Change.{change as changeRule}
 use Rattle.rules.specs.Turn.{afterReturn}
 use Rattle.turns.specs.declared.Vcpu.{Vcpu}
 use Rattle.turns.specs.declared.Description.{Description}
 use Rattle.turns.specs.declared.Change.{Change}
 use Rattle.turns.specs.declared.Change.the-variants.{Admit, Wake, Block, Remove, Tick}
-use Rattle.turns.specs.Written.{nobody, tunnelOf, written, noTenant, place}
+use Rattle.turns.specs.declared.Memory.{Memory}
+use Rattle.turns.specs.Written.{nobody, tunnelOf, written, noTenant, place, memoryOf}
 use Rattle.turns.proofs.Invariant.{Ranked, Distinct, termsOf, Listed}
 use Rattle.turns.specs.Steps.{usableAs, runnableAs}
 use Rattle.turns.specs.Places.{seek, namedAt, spotIn, inserted, removed}
+use Rattle.turns.specs.Remembered.{leavingOf}
 use Rattle.turns.specs.Calls.{described, asked}
 use Rattle.turns.proofs.Laid.{cutAt, laid-get, laid-put, laid-cut}
 use Rattle.turns.proofs.Written.{kind-left}
-use Rattle.turns.proofs.Places.{place-there, named-set, removed-cut, spotOf, spot-most, spot-laid, placed-put}
-use Rattle.turns.proofs.Ranked.{return-terms, named-terms, placed-ranked, keep-ranked}
+use Rattle.turns.proofs.Places.{place-there, find-there, named-set, removed-cut, spotOf, spot-most, spot-laid, placed-put}
+use Rattle.turns.proofs.Ranked.{all-get, return-terms, named-terms, placed-ranked, keep-ranked}
 use Rattle.turns.proofs.Rows.{idsOf, there, named-seek}
+use Rattle.rules.proofs.Named.{named-says, found}
+use Rattle.rules.proofs.Sound.{Sound}
+use Rattle.rules.proofs.Memory.{leaves-within}
 use Rattle.rules.proofs.Accepted.{Admits, admits}
 use Rattle.rules.proofs.Advance.{rows-stepped}
 use Rattle.rules.proofs.Changed.{length-placed}
 use Rattle.turns.proofs.Stage.{placesOf, Filled, filled-set}
+use Rattle.turns.proofs.Remembered.{leaving-written}
+use Rattle.turns.proofs.Settle.{calm-one}
 
 -- what depends on the terms alone
 abbrev onTerms : ℕ → List Terms → Bool
@@ -71,7 +80,7 @@ return-listed k now l =
 
 -- admit
 module _ (p : List Vcpu) (ids : List Tunnel) (n : ℕ) (vs : List Tenant) (f : Filled p ids n vs) (r : Listed vs) where
-  module _ (now : ℕ) (d : Description) (q : Admits vs (described d)) where
+  module _ (now : ℕ) (rs : List Remembered) (d : Description) (q : Admits vs rs (described d)) where
     abbrev new : Tenant
     new = admitted now (described d)
 
@@ -82,6 +91,9 @@ module _ (p : List Vcpu) (ids : List Tunnel) (n : ℕ) (vs : List Tenant) (f : F
     spot-fits : spotIn (described d) n p ids ≤ 32
     spot-fits = omega (arith, spot-is, spot-most new vs, r .few)
 
+    room : length vs < 32
+    room = omega (arith, q .room)
+
     admit-filled :
         Filled (inserted (spotIn (described d) n p ids) (written new) p) (inserted (spotIn (described d) n p ids) (d .tunnel) ids) (n + 1)
         (placed new vs)
@@ -90,12 +102,12 @@ module _ (p : List Vcpu) (ids : List Tunnel) (n : ℕ) (vs : List Tenant) (f : F
           places =
               ap (λ (k : ℕ). inserted k (written new) p) spot-is
               ∙ ap (inserted (spotOf new vs) (written new)) (f .places)
-              ∙ laid-put written (written noTenant) 32 vs (spotOf new vs) new (spot-most new vs) (q .room)
+              ∙ laid-put written (written noTenant) 32 vs (spotOf new vs) new (spot-most new vs) room
               ∙ ap placesOf (sym (placed-put new vs));
           tunnels =
               ap (λ (k : ℕ). inserted k (d .tunnel) ids) spot-is
               ∙ ap (inserted (spotOf new vs) (d .tunnel)) (f .tunnels)
-              ∙ laid-put tunnelOf (tunnel nobody) 32 vs (spotOf new vs) new (spot-most new vs) (q .room)
+              ∙ laid-put tunnelOf (tunnel nobody) 32 vs (spotOf new vs) new (spot-most new vs) room
               ∙ ap idsOf (sym (placed-put new vs));
           count = omega (arith, f .count, length-placed new vs);
         }
@@ -144,33 +156,41 @@ mark-written v b = ap (usableAs (written v) ((written v) .due) b) (kind-left (v 
 
 -- what an accepted call asks for holds after steps 1 and 2 too
 module _ (k : Card) (now : ℕ) where
+  named-there : (t : ℕ) → namingRows (k .vcpus) t ≡ none → onCard t (afterReturn k now) ≡ true
+  named-there t e = there (afterReturn k now) t (rows-stepped k now [] (wake t) ∙ e)
+
   named-place : (t : ℕ) → namingRows (k .vcpus) t ≡ none → place t (afterReturn k now) < length (afterReturn k now)
-  named-place t e = place-there t (afterReturn k now) (there (afterReturn k now) t (rows-stepped k now (wake t) ∙ e))
+  named-place t e = place-there t (afterReturn k now) (named-there t e)
 
-  admits-after : (d : Description) → admitRows (k .vcpus) (described d) ≡ none → Admits (afterReturn k now) (described d)
-  admits-after d e = admits (afterReturn k now) (described d) (rows-stepped k now (admit (described d)) ∙ e)
+  admits-after : (rs : List Remembered) (d : Description) → admitRows (k .vcpus) rs (described d) ≡ none
+      → Admits (afterReturn k now) rs (described d)
+  admits-after rs d e = admits (afterReturn k now) rs (described d) (rows-stepped k now rs (admit (described d)) ∙ e)
 
-  pub change-ranked : (change : Change) → callRows (k .vcpus) (asked change) ≡ none → Ranked (termsOf (k .vcpus))
-      → Ranked (termsOf (changeRule now (asked change) (afterReturn k now)))
+  pub change-ranked : (change : Change) → callRows (k .vcpus) (kept now (k .remembered)) (asked change) ≡ none
+      → Ranked (termsOf (k .vcpus)) → Ranked (termsOf (changeRule now (asked change) (afterReturn k now)))
   change-ranked change e r = go change e (subst Ranked (sym (return-terms k now)) r)
     where
-      go : (change : Change) → callRows (k .vcpus) (asked change) ≡ none → Ranked (termsOf (afterReturn k now))
+      go : (change : Change) → callRows (k .vcpus) (kept now (k .remembered)) (asked change) ≡ none
+          → Ranked (termsOf (afterReturn k now))
           → Ranked (termsOf (changeRule now (asked change) (afterReturn k now)))
-      go (Admit d) m s = placed-ranked (admitted now (described d)) (afterReturn k now) (admits-after d m .not-there) s
+      go (Admit d) m s =
+          placed-ranked (admitted now (described d)) (afterReturn k now) (admits-after (kept now (k .remembered)) d m .not-there) s
       go (Wake t) m s = subst Ranked (sym (named-terms (t .0) (setRunnable true) (afterReturn k now) (λ v. refl))) s
       go (Block t) m s = subst Ranked (sym (named-terms (t .0) (setRunnable false) (afterReturn k now) (λ v. refl))) s
       go (Remove t) m s = keep-ranked (λ v. not (named (t .0) v)) (afterReturn k now) s
       go Tick m s = s
 
--- the table: its places, its identifiers and its count
+-- the table: its places, its identifiers and its count; and who is remembered beside it
 pub record Table : Type 0 where
   pub places : List Vcpu
   pub ids : List Tunnel
   pub n : ℕ
+  pub memory : Memory
 
 -- what each change makes of it; `at` is the place that the call names, and `z` what a read past the end would give
 abbrev marked : Bool → ℕ → Vcpu → Table → Table
-marked b at z x = record { places = set (x .places) at (runnableAs (getD (x .places) at z) b); ids = x .ids; n = x .n }
+marked b at z x =
+    record { places = set (x .places) at (runnableAs (getD (x .places) at z) b); ids = x .ids; n = x .n; memory = x .memory }
 
 abbrev pub changedTable : ℕ → Change → ℕ → Vcpu → Table → Table
 changedTable now (Admit d) at z x =
@@ -178,61 +198,145 @@ changedTable now (Admit d) at z x =
       places = inserted (spotIn (described d) (x .n) (x .places) (x .ids)) (written (admitted now (described d))) (x .places);
       ids = inserted (spotIn (described d) (x .n) (x .places) (x .ids)) (d .tunnel) (x .ids);
       n = x .n + 1;
+      memory = x .memory;
     }
 changedTable now (Wake t) at z x = marked true at z x
 changedTable now (Block t) at z x = marked false at z x
 changedTable now (Remove t) at z x =
-    record { places = removed at (written noTenant) (x .places); ids = removed at (tunnel nobody) (x .ids); n = x .n - 1 }
+    record {
+      places = removed at (written noTenant) (x .places);
+      ids = removed at (tunnel nobody) (x .ids);
+      n = x .n - 1;
+      memory = leavingOf (x .memory) t (getD (x .places) at z);
+    }
 changedTable now Tick at z x = x
 
--- what it asks of the place
-abbrev pub Changeable : Change → ℕ → Table → Type 0
-Changeable (Admit d) at x = (spotIn (described d) (x .n) (x .places) (x .ids) ≤ 32) × (d .period .0 ≤ largestPeriod)
-Changeable (Wake t) at x = at < 32
-Changeable (Block t) at x = at < 32
-Changeable (Remove t) at x = (at < 32) × (1 ≤ x .n)
-Changeable Tick at x = Unit
+-- what it asks of the place, and of the room to remember
+pub record Removable (at : ℕ) (z : Vcpu) (x : Table) : Type 0 where
+  pub inside : at < 32
+  pub one : 1 ≤ x .n
+  pub room : x .memory .count < 32
+  pub short : (getD (x .places) at z) .count ≤ 8
 
-abbrev pub FilledBy : Table → List Tenant → Type 0
-FilledBy x vs = Filled (x .places) (x .ids) (x .n) vs
+abbrev pub Changeable : Change → ℕ → Vcpu → Table → Type 0
+Changeable (Admit d) at z x = (spotIn (described d) (x .n) (x .places) (x .ids) ≤ 32) × (d .period .0 ≤ largestPeriod)
+Changeable (Wake t) at z x = at < 32
+Changeable (Block t) at z x = at < 32
+Changeable (Remove t) at z x = Removable at z x
+Changeable Tick at z x = Unit
 
--- an accepted call finds its place, and leaves the rules' list after the change, written
-module _ (k : Card) (now : ℕ) (l : Listed (k .vcpus)) (x : Table) (f : FilledBy x (afterReturn k now)) where
-  r : Listed (afterReturn k now)
-  r = return-listed k now l
+pub record FilledBy (x : Table) (vs : List Tenant) (rs : List Remembered) : Type 0 where
+  pub table : Filled (x .places) (x .ids) (x .n) vs
+  pub memory : x .memory ≡ memoryOf rs
 
-  at-place : (t at : ℕ) → at ≡ seek t (idsOf (k .vcpus)) → namingRows (k .vcpus) t ≡ none → at ≡ place t (afterReturn k now)
-  at-place t at e m = e ∙ named-seek (k .vcpus) (l .few) t m ∙ sym (return-place k now t)
+-- an accepted call, after steps 1 and 2
+pub record Stepped (k : Card) (now : ℕ) : Type 0 where
+  pub listed : Listed (k .vcpus)
+  pub few : length (k .vcpus) + length (kept now (k .remembered)) ≤ 32
+  pub time : now ≤ largestTime
+  pub sound : All (Sound now) (afterReturn k now)
 
-  marks : (t at : ℕ) (b : Bool) (z : Vcpu) → at ≡ seek t (idsOf (k .vcpus)) → namingRows (k .vcpus) t ≡ none
-      → FilledBy (marked b at z x) (toNamed t (setRunnable b) (afterReturn k now))
-  marks t at b z e m =
-      let i : at ≡ place t (afterReturn k now) = at-place t at e m in
-      let h : place t (afterReturn k now) < length (afterReturn k now) = named-place k now t m in
-      subst (λ (v : Vcpu). Filled (set (x .places) at v) (x .ids) (x .n) (toNamed t (setRunnable b) (afterReturn k now)))
-      (sym (ap (λ (v : Vcpu). runnableAs v b) (mark-read (x .places) (x .ids) (x .n) (afterReturn k now) f r t at i h z)
-      ∙ mark-written (getD (afterReturn k now) (place t (afterReturn k now)) noTenant) b))
-      (mark-filled (x .places) (x .ids) (x .n) (afterReturn k now) f r t at i h b z)
+-- .. finds its place, and leaves the rules' lists after the change, written
+module _ (k : Card) (now : ℕ) (l : Stepped k now) (x : Table) (f : FilledBy x (afterReturn k now) (kept now (k .remembered))) where
+  abbrev vs : List Tenant
+  vs = afterReturn k now
 
-  small : (t at : ℕ) → at ≡ seek t (idsOf (k .vcpus)) → namingRows (k .vcpus) t ≡ none → at < x .n
-  small t at e m = omega (arith, at-place t at e m, named-place k now t m, f .count)
+  abbrev rs : List Remembered
+  rs = kept now (k .remembered)
 
-  pub changeable : (change : Change) (at : ℕ) → at ≡ namedAt (idsOf (k .vcpus)) change → callRows (k .vcpus) (asked change) ≡ none
-      → Changeable change at x
-  changeable (Admit d) at e m =
-      let q : Admits (afterReturn k now) (described d) = admits-after k now d m in
-      (spot-fits (x .places) (x .ids) (x .n) (afterReturn k now) f r now d q, q .range .period-high)
-  changeable (Wake t) at e m = omega (arith, small (t .0) at e m, f .count, r .few)
-  changeable (Block t) at e m = omega (arith, small (t .0) at e m, f .count, r .few)
-  changeable (Remove t) at e m = (omega (arith, small (t .0) at e m, f .count, r .few), omega (arith, small (t .0) at e m))
-  changeable Tick at e m = tt
+  r : Listed vs
+  r = return-listed k now (l .listed)
+
+  at-place : (t at : ℕ) → at ≡ seek t (idsOf (k .vcpus)) → namingRows (k .vcpus) t ≡ none → at ≡ place t vs
+  at-place t at e m = e ∙ named-seek (k .vcpus) (l .listed .few) t m ∙ sym (return-place k now t)
+
+  -- the record at that place
+  module _ (t at : ℕ) (e : at ≡ seek t (idsOf (k .vcpus))) (m : namingRows (k .vcpus) t ≡ none) where
+    abbrev there-now : Tenant
+    there-now = getD vs (place t vs) noTenant
+
+    read : (z : Vcpu) → getD (x .places) at z ≡ written there-now
+    read z = mark-read (x .places) (x .ids) (x .n) vs (f .table) r t at (at-place t at e m) (named-place k now t m) z
+
+    sound-there : Sound now there-now
+    sound-there = all-get (Sound now) vs (place t vs) noTenant (l .sound) (named-place k now t m)
+
+    small : at < x .n
+    small = omega (arith, at-place t at e m, named-place k now t m, f .table .count)
+
+    at-small : at < 32
+    at-small = omega (arith, small, f .table .count, r .few)
+
+    marks : (b : Bool) (z : Vcpu) → FilledBy (marked b at z x) (toNamed t (setRunnable b) vs) (rs ++ [])
+    marks b z =
+        record {
+          table =
+              subst (λ (v : Vcpu). Filled (set (x .places) at v) (x .ids) (x .n) (toNamed t (setRunnable b) vs))
+              (sym (ap (λ (v : Vcpu). runnableAs v b) (read z) ∙ mark-written there-now b))
+              (mark-filled (x .places) (x .ids) (x .n) vs (f .table) r t at (at-place t at e m) (named-place k now t m) b z);
+          memory = f .memory ∙ ap memoryOf (sym (append-nil rs));
+        }
+
+    room-left : length rs < 32
+    room-left = omega (arith, l .few, return-length k now, named-place k now t m)
+
+    removable : (z : Vcpu) → Removable at z x
+    unfolding written
+    removable z =
+        record {
+          inside = at-small;
+          one = omega (arith, small);
+          room = omega (arith, ap (λ (y : Memory). y .count) (f .memory), room-left);
+          short = subst (λ (v : Vcpu). v .count ≤ 8) (sym (read z)) (sound-there .few);
+        }
+
+  -- who is removed is remembered
+  module _ (t : Tunnel) (at : ℕ) (e : at ≡ seek (t .0) (idsOf (k .vcpus))) (m : namingRows (k .vcpus) (t .0) ≡ none) where
+    abbrev gone : Tenant
+    gone = there-now (t .0) at e m
+
+    is-found : find (t .0) vs ≡ some gone
+    is-found = find-there (t .0) vs (named-there k now (t .0) m)
+
+    its-name : gone .terms .tunnel ≡ t .0
+    its-name = named-says (t .0) gone (found (t .0) vs gone is-found .1)
+
+    left : (z : Vcpu) → leavingOf (x .memory) t (getD (x .places) at z) ≡ memoryOf (rs ++ leftBy (find (t .0) vs))
+    left z =
+        ap (λ (y : Memory). leavingOf y t (getD (x .places) at z)) (f .memory)
+        ∙ ap (leavingOf (memoryOf rs) t) (read (t .0) at e m z)
+        ∙ leaving-written gone (calm-one now gone (l .time) s) (s .few) rs t (room-left (t .0) at e m)
+        (λ u g. omega (arith, leaves-within now gone s u g, s .range .period-high, l .time))
+        ∙ ap (λ (n : ℕ). memoryOf (rs ++ remembering n (leavesUntil gone))) (sym its-name)
+        ∙ ap (λ (o : Option Tenant). memoryOf (rs ++ leftBy o)) (sym is-found)
+      where
+        s : Sound now gone
+        s = sound-there (t .0) at e m
+
+  pub changeable : (change : Change) (at : ℕ) (z : Vcpu) → at ≡ namedAt (idsOf (k .vcpus)) change
+      → callRows (k .vcpus) rs (asked change) ≡ none → Changeable change at z x
+  changeable (Admit d) at z e m =
+      let q : Admits vs rs (described d) = admits-after k now rs d m in
+      (spot-fits (x .places) (x .ids) (x .n) vs (f .table) r now rs d q, q .range .period-high)
+  changeable (Wake t) at z e m = at-small (t .0) at e m
+  changeable (Block t) at z e m = at-small (t .0) at e m
+  changeable (Remove t) at z e m = removable (t .0) at e m z
+  changeable Tick at z e m = tt
 
   pub change-filled : (change : Change) (at : ℕ) (z : Vcpu) → at ≡ namedAt (idsOf (k .vcpus)) change
-      → callRows (k .vcpus) (asked change) ≡ none
-      → FilledBy (changedTable now change at z x) (changeRule now (asked change) (afterReturn k now))
-  change-filled (Admit d) at z e m = admit-filled (x .places) (x .ids) (x .n) (afterReturn k now) f r now d (admits-after k now d m)
-  change-filled (Wake t) at z e m = marks (t .0) at true z e m
-  change-filled (Block t) at z e m = marks (t .0) at false z e m
+      → callRows (k .vcpus) rs (asked change) ≡ none
+      → FilledBy (changedTable now change at z x) (changeRule now (asked change) vs) (rs ++ leaving (asked change) vs)
+  change-filled (Admit d) at z e m =
+      record {
+        table = admit-filled (x .places) (x .ids) (x .n) vs (f .table) r now rs d (admits-after k now rs d m);
+        memory = f .memory ∙ ap memoryOf (sym (append-nil rs));
+      }
+  change-filled (Wake t) at z e m = marks (t .0) at e m true z
+  change-filled (Block t) at z e m = marks (t .0) at e m false z
   change-filled (Remove t) at z e m =
-      remove-filled (x .places) (x .ids) (x .n) (afterReturn k now) f r (t .0) at (at-place (t .0) at e m) (named-place k now (t .0) m)
-  change-filled Tick at z e m = f
+      record {
+        table =
+            remove-filled (x .places) (x .ids) (x .n) vs (f .table) r (t .0) at (at-place (t .0) at e m) (named-place k now (t .0) m);
+        memory = left t at e m z;
+      }
+  change-filled Tick at z e m = record { table = f .table; memory = f .memory ∙ ap memoryOf (sym (append-nil rs)) }

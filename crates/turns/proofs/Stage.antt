@@ -18,34 +18,40 @@ use Rattle.rules.specs.Vcpu.{Description, Entry, moreUrgent}
 use Rattle.rules.specs.Vcpu.{Vcpu as Tenant}
 use Rattle.rules.specs.Charge.{charged, charge}
 use Rattle.rules.specs.Choose.{ready, better, mostUrgent, choose, runs}
-use Rattle.rules.specs.Turn.{afterCharge}
+use Rattle.rules.specs.Turn.{afterCharge, afterReturn}
 use Rattle.rules.specs.History.{holds as isHeldBy}
 use Rattle.rules.proofs.Tests.{no-some}
-use Rattle.rules.proofs.Lists.{all-imp}
+use Rattle.rules.proofs.Lists.{all-imp, all-keep, length-keep}
 use Rattle.rules.proofs.Sound.{Sound, kept-charged}
 use Rattle.rules.proofs.Advance.{terms-charged}
 use Rattle.rules.proofs.Accepted.{Passed, in-time}
+use Rattle.rules.proofs.Reached.{returned-lawful}
 use Rattle.turns.specs.declared.Vcpu.{Vcpu}
+use Rattle.turns.specs.declared.Memory.{Memory}
 use Rattle.turns.specs.declared.Core.{Core}
 use Rattle.turns.specs.declared.Change.{Change}
 use Rattle.turns.specs.Laid.{laid}
-use Rattle.turns.specs.Written.{idle, nobody, amountOf, tunnelOf, written, noTenant, card, coreOf, place, placeOf, timerOf, tenants}
-use Rattle.turns.proofs.Invariant.{Distinct, termsOf, Fits, SoundCore, between, card-reached, kept-fits}
+use Rattle.turns.specs.Written.{idle, never, nobody, amountOf, tunnelOf, written, noTenant, card, coreOf, place, placeOf, timerOf}
+use Rattle.turns.specs.Written.{tenants, memories, memoryOf}
+use Rattle.turns.proofs.Invariant.{Distinct, termsOf, Fits, SoundCore, between, card-reached, means, kept-fits}
 use Rattle.turns.specs.Steps.{chargedOf, Chargeable}
 use Rattle.turns.proofs.Laid.{laid-get, laid-set}
 use Rattle.turns.proofs.Written.{Shows, tenants-laid}
 use Rattle.turns.proofs.Places.{named-set}
 use Rattle.turns.proofs.Charge.{charged-same}
 use Rattle.turns.proofs.Ranked.{all-get, all-set}
+use Rattle.turns.proofs.Remembered.{memory-fixed}
 use Rattle.turns.proofs.Rows.{idsOf, verdictOf, judge-same}
+use Rattle.rules.specs.Remember.{Remembered, isKept, kept}
 use Rattle.rules.specs.Refuse.{refusal}
 use Rattle.rules.specs.Refuse.{Refusal as Row}
 use Rattle.turns.specs.declared.Refusal.{Refusal}
 use Rattle.turns.specs.declared.Verdict.{Verdict}
 use Rattle.turns.specs.declared.Verdict.the-variants.{Accept, Refuse}
 use Rattle.turns.specs.Places.{namedAt}
+use Rattle.turns.specs.Remembered.{Fixed, Below}
 use Rattle.turns.specs.Judge.{judge}
-use Rattle.turns.specs.Calls.{asked}
+use Rattle.turns.specs.Calls.{asked, callOf}
 
 abbrev pub placesOf : List Tenant → List Vcpu
 placesOf vs = laid 32 written (written noTenant) vs
@@ -151,6 +157,40 @@ module _ (c : Core) (r : SoundCore c) where
   timer-is : c .timer ≡ moment (timerOf (card c .timer))
   unfolding coreOf
   timer-is = ap (λ (d : Core). d .timer) (r .written)
+
+  pub memory-is : c .memory ≡ memoryOf (card c .remembered)
+  unfolding coreOf
+  memory-is = ap (λ (d : Core). d .memory) (r .written)
+
+  -- it shows them
+  pub memories-are : memories (c .memory) ≡ card c .remembered
+  unfolding card
+  memories-are = refl
+
+  pub memory-written : Fixed (c .memory)
+  memory-written = subst Fixed (sym memory-is) (memory-fixed (card c .remembered) (omega (arith, means c r .few-together)))
+
+  pub remembered-below : Below (card c .remembered)
+  remembered-below = all-imp (λ x g. omega (arith, g .2, means c r .time-high)) (card c .remembered) (means c r .remembered-range)
+
+  -- of those, the ones remembered still at a moment
+  module _ (now : ℕ) where
+    pub kept-below : Below (kept now (card c .remembered))
+    kept-below = all-keep (λ x. x .time < never) (isKept now) (card c .remembered) remembered-below
+
+    -- as the code has them: moved to the front, or, where there are none, left alone
+    pub kept-written : (m : Memory) → m ≡ memoryOf (kept now (memories (c .memory))) → m ≡ memoryOf (kept now (card c .remembered))
+    kept-written m e = e ∙ ap (λ (rs : List Remembered). memoryOf (kept now rs)) memories-are
+
+    pub kept-none : c .memory .count ≤ 0 → c .memory ≡ memoryOf (kept now (card c .remembered))
+    kept-none h = go (card c .remembered) memory-is
+      where
+        go : (rs : List Remembered) → c .memory ≡ memoryOf rs → c .memory ≡ memoryOf (kept now rs)
+        go [] e = e
+        go (x ∷ rs) e = absurd (omega (arith, ap (λ (m : Memory). m .count) e))
+
+    pub kept-few : length (card c .vcpus) + length (kept now (card c .remembered)) ≤ 32
+    kept-few = omega (arith, means c r .few-together, length-keep (isKept now) (card c .remembered))
 
   running-is : c .running ≡ placeOf (card c .running) (card c .vcpus)
   unfolding coreOf
@@ -302,6 +342,11 @@ module _ (c : Core) (r : SoundCore c) (now : Moment) (change : Change) (m : Pass
   idle-filled : Filled (c .places) (c .ids) (c .n) (afterCharge (card c) (now .0))
   idle-filled = subst (Filled (c .places) (c .ids) (c .n)) (sym idle-charge) (filled c r)
 
+-- after steps 1 and 2 all is still to come
+pub returned-sound : (c : Core) → SoundCore c → (now : Moment) (change : Change) → Passed (card c) (now .0) (asked change)
+    → All (Sound (now .0)) (afterReturn (card c) (now .0))
+returned-sound c r now change m = returned-lawful (card c) _ _ (callOf now change) (card-reached c r) m .sound
+
 -- a table that stands: written, and its numbers fit
 pub record Stands (p : List Vcpu) (ids : List Tunnel) (n : ℕ) (vs : List Tenant) : Type 0 where
   pub filled : Filled p ids n vs
@@ -339,20 +384,21 @@ module _ (c : Core) (r : SoundCore c) (now : Moment) (change : Change) (m : Pass
       go (idles e i) = record { filled = idle-filled c r now change m e; fits = idle-fits c r now change m e }
 
 -- the verdict on a valid core
-module _ (c : Core) (now : Moment) (change : Change) (r : SoundCore c) (at : ℕ) (a : at ≡ namedAt (c .ids) change) where
+module _ (c : Core) (now : Moment) (change : Change) (r : SoundCore c) (at : ℕ) (a : at ≡ namedAt (c .ids) change) (m : Memory)
+    (i : m ≡ memoryOf (kept (now .0) (card c .remembered))) where
   pub named-card : at ≡ namedAt (idsOf (card c .vcpus)) change
   named-card = a ∙ ap (λ (i : List Tunnel). namedAt i change) (ids-are c r)
 
-  judged-card : judge (c .last) (c .timer) at (c .n) now change ≡ verdictOf (refusal (card c) (now .0) (asked change))
+  judged-card : judge (c .last) (c .timer) at (c .n) m now change ≡ verdictOf (refusal (card c) (now .0) (asked change))
   judged-card =
-      same (c .last) _ (c .timer) _ at _ (c .n) _ (last-is c r) (timer-is c r) named-card (n-is c r)
-      ∙ judge-same (card c) now change (between c r .few)
+      same (c .last) _ (c .timer) _ at _ (c .n) _ m _ (last-is c r) (timer-is c r) named-card (n-is c r) i
+      ∙ judge-same (card c) now change (between c r .few) (omega (arith, kept-few c r (now .0))) (kept-below c r (now .0))
     where
-      same : (l l′ t t′ : Moment) (a a′ n n′ : ℕ) → l ≡ l′ → t ≡ t′ → a ≡ a′ → n ≡ n′
-          → judge l t a n now change ≡ judge l′ t′ a′ n′ now change
-      same l l′ t t′ a a′ n n′ p q u v = rw (p, q, u, v)
+      same : (l l′ t t′ : Moment) (a a′ n n′ : ℕ) (m m′ : Memory) → l ≡ l′ → t ≡ t′ → a ≡ a′ → n ≡ n′ → m ≡ m′
+          → judge l t a n m now change ≡ judge l′ t′ a′ n′ m′ now change
+      same l l′ t t′ a a′ n n′ m m′ p q u v w = rw (p, q, u, v, w)
 
-  module _ (v : Verdict) (e : v ≡ judge (c .last) (c .timer) at (c .n) now change) where
+  module _ (v : Verdict) (e : v ≡ judge (c .last) (c .timer) at (c .n) m now change) where
     pub accepted-call : v ≡ Accept → refusal (card c) (now .0) (asked change) ≡ none
     accepted-call g = go (refusal (card c) (now .0) (asked change)) (sym g ∙ e ∙ judged-card)
       where

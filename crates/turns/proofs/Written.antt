@@ -14,10 +14,9 @@ use Rattle.units.specs.declared.Moment.{Moment}
 use Rattle.units.specs.declared.Amount.{Amount}
 use Rattle.units.specs.declared.Tunnel.{Tunnel}
 use Rattle.rules.specs.Lists.{All}
-use Rattle.rules.specs.Vcpu.{Entry, leaves}
+use Rattle.rules.specs.Vcpu.{Entry, leaves, times, comes}
 use Rattle.rules.specs.Vcpu.{Description as Terms}
 use Rattle.rules.specs.Vcpu.{Vcpu as Tenant}
-use Rattle.rules.specs.Timer.{times, comes}
 use Rattle.rules.proofs.Tests.{clash}
 use Rattle.turns.specs.declared.Kind.{Kind}
 use Rattle.turns.specs.declared.Kind.the-variants.{Sporadic, Deferrable, Polling}

@@ -27,7 +27,7 @@ use Rattle.turns.specs.declared.Reply.the-variants.{Done, No}
 use Rattle.turns.specs.declared.Answer.{Answer}
 use Rattle.turns.specs.declared.Core.{Core}
 use Rattle.turns.specs.declared.Presence.{Presence}
-use Rattle.turns.specs.declared.Presence.the-variants.{OnCard, Absent}
+use Rattle.turns.specs.declared.Presence.the-variants.{OnCard, Remembered, Absent}
 use Rattle.turns.specs.declared.Boundary.{Boundary}
 use Rattle.turns.specs.declared.Boundary.the-variants.{Unset as NoBoundary, At as NextAt}
 use Rattle.turns.specs.declared.Vcpu.{Vcpu}
@@ -63,7 +63,14 @@ paperReply (No x) = refused (record { number = x .number; detail = x .detail })
 -- the identifier is on the card
 abbrev pub paperPresence : Presence → Bool
 paperPresence OnCard = true
+paperPresence (Remembered m) = false
 paperPresence Absent = false
+
+-- the time that it is remembered with, if it is
+abbrev pub paperRemembered : Presence → Option ℕ
+paperRemembered OnCard = none
+paperRemembered (Remembered m) = some (m .0)
+paperRemembered Absent = none
 
 -- the other way: the answer that has the paper's number and values
 abbrev pub holderSaid : Option ℕ → Holder

@@ -13,6 +13,7 @@ use Rattle.rules.specs.Meaning.{Meaning}
 use Rattle.rules.specs.Rows.{First, NoRow}
 use Rattle.rules.specs.Budgets.{Budgets}
 use Rattle.rules.specs.Marks.{Marks}
+use Rattle.rules.specs.Leaving.{Leaving}
 use Rattle.rules.specs.History.{Exchange, after, heard}
 use Rattle.rules.specs.Demand3.{ItsStay, Demand3}
 use Rattle.turns.specs.declared.Change.{Change}
@@ -51,6 +52,8 @@ pub record Accepted (c : Core) (now : Moment) (change : Change) (a : Answer) : T
   -- what steps 1 and 2, and step 3, mean; what steps 4 and 5 mean is in Meaning
   pub budgets : Budgets (card c) (callOf now change) (card (a .core) .vcpus)
   pub marks : Marks (card c .vcpus) (now .0) (asked change) (card (a .core) .vcpus)
+  -- who is remembered then, and with which time
+  pub leaving : Leaving (card c) (callOf now change) (card (a .core) .remembered)
 
 -- the answer `a` that the code gives to a call on the core `c`
 pub record Next (c : Core) (now : Moment) (change : Change) (a : Answer) : Type 0 where

@@ -150,6 +150,10 @@ returnedOne v =
 abbrev pub headOf : Vcpu → ℕ
 headOf v = (getD (v .due) 0 (moment 0)) .0
 
+-- the last time that something comes
+abbrev pub latestOf : Vcpu → ℕ
+latestOf v = cond (eqb (v .count) 0) (headOf v) ((getD (v .due) (v .count - 1) (moment 0)) .0)
+
 -- the next boundary that a record shows
 abbrev pub boundaryIn : Vcpu → Option ℕ
 boundaryIn v = boundaryAt (v .kind) (moment (headOf v))

@@ -11,13 +11,14 @@ use Rattle.units.specs.declared.Moment.{Moment}
 use Rattle.units.specs.declared.Amount.{Amount}
 use Rattle.units.specs.declared.Tunnel.{Tunnel}
 use Rattle.rules.specs.Limits.{mostVcpus, mostPending}
-use Rattle.rules.specs.Vcpu.{Entry, named}
-use Rattle.rules.specs.Timer.{comes}
+use Rattle.rules.specs.Vcpu.{Entry, named, comes}
 use Rattle.rules.specs.Vcpu.{Vcpu as Tenant}
+use Rattle.rules.specs.Remember.{Remembered}
 use Rattle.rules.specs.Card.{Card}
 use Rattle.turns.specs.declared.Kind.{Kind}
 use Rattle.turns.specs.declared.Kind.the-variants.{Sporadic, Deferrable, Polling}
 use Rattle.turns.specs.declared.Vcpu.{Vcpu}
+use Rattle.turns.specs.declared.Memory.{Memory}
 use Rattle.turns.specs.declared.Core.{Core}
 use Rattle.turns.specs.Laid.{laid}
 
@@ -121,6 +122,17 @@ runningAt at ids = cond (ltb at idle) (some ((getD ids at (tunnel nobody)) .0)) 
 abbrev pub timerAt : ℕ → Option ℕ
 timerAt t = cond (eqb t never) none (some t)
 
+-- the first `n` slots of a memory, in order
+abbrev pub slots : ℕ → List Tunnel → List Moment → List Remembered
+slots zero ts ms = []
+slots (suc n) [] ms = []
+slots (suc n) (t ∷ ts) [] = []
+slots (suc n) (t ∷ ts) (m ∷ ms) = record { tunnel = t .0; time = m .0 } ∷ slots n ts ms
+
+-- who is remembered by a memory
+abbrev pub memories : Memory → List Remembered
+memories m = slots (m .count) (m .ids) (m .until)
+
 -- the card that a core shows
 unfoldable pub card : Core → Card
 card c =
@@ -129,6 +141,7 @@ card c =
       running = runningAt (c .running) (c .ids);
       timer = timerAt (c .timer .0);
       vcpus = tenants (c .n) (c .ids) (c .places);
+      remembered = memories (c .memory);
     }
 
 -- the place of the one so named, or behind all where there is none
@@ -144,6 +157,21 @@ abbrev pub timerOf : Option ℕ → ℕ
 timerOf none = never
 timerOf (some t) = t
 
+abbrev pub idOf : Remembered → Tunnel
+idOf r = tunnel (r .tunnel)
+
+abbrev pub untilOf : Remembered → Moment
+untilOf r = moment (r .time)
+
+-- the memory that they are written as
+abbrev pub memoryOf : List Remembered → Memory
+memoryOf rs =
+    record {
+      until = laid mostVcpus untilOf (moment never) rs;
+      ids = laid mostVcpus idOf (tunnel nobody) rs;
+      count = length rs;
+    }
+
 -- the core that a card is written as
 unfoldable pub coreOf : Card → Core
 coreOf k =
@@ -152,6 +180,7 @@ coreOf k =
       last = moment (k .last);
       ids = laid mostVcpus tunnelOf (tunnel nobody) (k .vcpus);
       timer = moment (timerOf (k .timer));
+      memory = memoryOf (k .remembered);
       running = placeOf (k .running) (k .vcpus);
       n = length (k .vcpus);
     }

@@ -1,4 +1,4 @@
-// The reply numbers, rows 1 to 8 and 10 to 12. `at` is the place of the VCPU that the call names: a refused call does not touch the table.
+// The reply numbers, rows 1 to 12. `at` is the place of the VCPU that the call names: a refused call does not touch the table.
 use crate::Change;
 use crate::Description;
 use crate::LARGEST_KIND;
@@ -6,15 +6,20 @@ use crate::LARGEST_PERIOD;
 use crate::LARGEST_TIME;
 use crate::LARGEST_TUNNEL;
 use crate::MOST_VCPUS;
+use crate::Memory;
+use crate::NEVER;
 use crate::NOWHERE;
 use crate::Refusal;
 use crate::Verdict;
+use crate::remember;
 use units::Moment;
 use units::Tunnel;
 ghost use mathlib.Core.Path.{_≡_};
-ghost use Rattle.rules.specs.Limits.{inRange};
-ghost use Rattle.turns.specs.Judge.{refuse, judgeAdmit, judgeNaming, judgeCall};
+ghost use Prim.Native.Nat.{_+_, _≤_};
+ghost use Rattle.rules.specs.Limits.{mostVcpus, inRange};
+ghost use Rattle.turns.specs.Judge.{refuse, judgeTerms, judgePlace, judgeAdmit, judgeNaming, judgeCall};
 ghost use Rattle.turns.specs.Judge.{judge as judgeRows};
+ghost use Rattle.turns.specs.Remembered.{Fixed};
 
 fn refused(number: u8, detail: u64) -> Verdict
     ensures { λ r. ⌜ r ≡ refuse number detail ⌝ }
@@ -31,8 +36,9 @@ fn in_range(period: u32) -> bool
     period <= LARGEST_PERIOD
 }
 
-fn judged_admit(at: usize, n: usize, d: Description) -> Verdict
-    ensures { λ r. ⌜ r ≡ judgeAdmit at n d ⌝ }
+// Rows 4, 5, 11, 12 and 10 of an admit: what it asks for.
+fn judged_terms(d: Description) -> Verdict
+    ensures { λ r. ⌜ r ≡ judgeTerms d Verdict.Accept ⌝ }
 {
     let id = d.tunnel;
     let period = d.period;
@@ -59,15 +65,41 @@ fn judged_admit(at: usize, n: usize, d: Description) -> Verdict
     if unknown {
         return refused(10, 0);
     }
+    Verdict::Accept
+}
+
+// Rows 6, 9 and 8: its place. `memory` has those remembered at the call's time.
+fn judged_place(at: usize, n: usize, memory: Memory, id: Tunnel) -> Verdict
+    requires { ⌜ Fixed memory ⌝ }
+    requires { ⌜ n + memory .count ≤ mostVcpus ⌝ }
+    ensures { λ r. ⌜ r ≡ judgePlace at n memory (id .0) ⌝ }
+{
     let there = at < NOWHERE;
     if there {
         return refused(6, 0);
     }
-    let full = MOST_VCPUS <= n;
+    let until = remember::time_of(memory, id).ticks();
+    let remembered = until < NEVER;
+    if remembered {
+        return refused(9, until);
+    }
+    let full = MOST_VCPUS <= n + memory.count;
     if full {
         return refused(8, 0);
     }
     Verdict::Accept
+}
+
+fn judged_admit(at: usize, n: usize, memory: Memory, d: Description) -> Verdict
+    requires { ⌜ Fixed memory ⌝ }
+    requires { ⌜ n + memory .count ≤ mostVcpus ⌝ }
+    ensures { λ r. ⌜ r ≡ judgeAdmit at n memory d ⌝ }
+{
+    let terms = judged_terms(d);
+    match terms {
+        Verdict::Accept => judged_place(at, n, memory, d.tunnel),
+        Verdict::Refuse(refusal) => Verdict::Refuse(refusal),
+    }
 }
 
 fn judged_naming(at: usize, id: Tunnel) -> Verdict
@@ -84,11 +116,13 @@ fn judged_naming(at: usize, id: Tunnel) -> Verdict
     Verdict::Accept
 }
 
-fn judged_call(at: usize, n: usize, change: Change) -> Verdict
-    ensures { λ r. ⌜ r ≡ judgeCall at n change ⌝ }
+fn judged_call(at: usize, n: usize, memory: Memory, change: Change) -> Verdict
+    requires { ⌜ Fixed memory ⌝ }
+    requires { ⌜ n + memory .count ≤ mostVcpus ⌝ }
+    ensures { λ r. ⌜ r ≡ judgeCall at n memory change ⌝ }
 {
     match change {
-        Change::Admit(d) => judged_admit(at, n, d),
+        Change::Admit(d) => judged_admit(at, n, memory, d),
         Change::Wake(id) => judged_naming(at, id),
         Change::Block(id) => judged_naming(at, id),
         Change::Remove(id) => judged_naming(at, id),
@@ -101,10 +135,13 @@ pub(crate) fn judged(
     timer: Moment,
     at: usize,
     n: usize,
+    memory: Memory,
     now: Moment,
     change: Change,
 ) -> Verdict
-    ensures { λ r. ⌜ r ≡ judgeRows last timer at n now change ⌝ }
+    requires { ⌜ Fixed memory ⌝ }
+    requires { ⌜ n + memory .count ≤ mostVcpus ⌝ }
+    ensures { λ r. ⌜ r ≡ judgeRows last timer at n memory now change ⌝ }
 {
     let above = LARGEST_TIME < now.ticks();
     if above {
@@ -116,5 +153,5 @@ pub(crate) fn judged(
     if timer.before(now) {
         return refused(3, timer.ticks());
     }
-    judged_call(at, n, change)
+    judged_call(at, n, memory, change)
 }

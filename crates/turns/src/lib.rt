@@ -1,5 +1,6 @@
 // The scheduler of one core: timed calls go in, the VCPU to run, its usable ticks and the timer come out.
 mod judge;
+mod remember;
 mod steps;
 mod table;
 
@@ -12,10 +13,12 @@ ghost use lib.ListN.{length};
 ghost use Rattle.rules.specs.Card.{empty as emptyCard};
 ghost use Rattle.rules.specs.Card.{find as findRule};
 ghost use Rattle.rules.specs.Card.{onCard};
+ghost use Rattle.rules.specs.Remember.{timeOf};
 ghost use Rattle.rules.specs.Turn.{turn as turnRule};
 ghost use Rattle.turns.specs.Written.{card, coreOf};
 ghost use Rattle.turns.specs.State.{ValidCore};
-ghost use Rattle.turns.specs.Calls.{callOf, paperReply, paperHolder, paperTimer, paperPresence, paperBoundary, looked, boundaryOf};
+ghost use Rattle.turns.specs.Calls.{callOf, paperReply, paperHolder, paperTimer, looked, boundaryOf};
+ghost use Rattle.turns.specs.Calls.{paperPresence, paperRemembered, paperBoundary};
 
 // The limits of the card.
 pub const LARGEST_TUNNEL: u32 = 16777215;
@@ -116,9 +119,10 @@ pub struct Vcpu {
     pub kind: Kind,
 }
 
-// Whether an identifier is on the card.
+// Whether an identifier is on the card, or left it and is remembered, until that time.
 pub enum Presence {
     OnCard,
+    Remembered(Moment),
     Absent,
 }
 
@@ -135,12 +139,21 @@ pub struct Look {
     pub boundary: Boundary,
 }
 
-// The card: the time of the last accepted call, who runs, the timer, and how many VCPUs are on it.
+// The card: the time of the last accepted call, who runs, the timer, how many VCPUs are on it, and how many identifiers it remembers.
 pub struct Status {
     pub time: Moment,
     pub run: Holder,
     pub timer: Timer,
     pub vcpus: usize,
+    pub remembered: usize,
+}
+
+// The identifiers remembered: the first `count` slots hold them in the order of their removals, each with its time; the others hold the
+// identifier of nobody and a time above all. It is public because a core is, within which it lies.
+pub struct Memory {
+    until: [Moment; MOST_VCPUS],
+    ids: [Tunnel; MOST_VCPUS],
+    count: usize,
 }
 
 // The first `n` places are in use, the most urgent first. The order of the fields keeps a copy of the table away.
@@ -149,6 +162,7 @@ pub struct Core {
     last: Moment,
     ids: [Tunnel; MOST_VCPUS],
     timer: Moment,
+    memory: Memory,
     running: usize,
     n: usize,
 }
@@ -177,6 +191,7 @@ impl Core {
             last: Moment::new(0),
             ids: [id; MOST_VCPUS],
             timer: Moment::new(NEVER),
+            memory: remember::blank(),
             running: IDLE,
             n: 0,
         }
@@ -193,7 +208,13 @@ impl Core {
         let mut n = self.n;
         // Sought once, for the rows and for the change; the rows need no more of the identifiers.
         let at = table::named(ids, change);
-        let verdict = judge::judged(last, self.timer, at, n, now, change);
+        // Who is remembered at the call's time, for the rows and for the state after it. Asked here, so that a card that remembers nobody
+        // is not copied once more.
+        let mut memory = self.memory;
+        if 0 < memory.count {
+            memory = remember::kept(memory, now);
+        }
+        let verdict = judge::judged(last, self.timer, at, n, memory, now, change);
         match verdict {
             Verdict::Accept => {}
             Verdict::Refuse(refusal) => {
@@ -239,11 +260,14 @@ impl Core {
                 let v = p[at];
                 p[at] = steps::runnable_as(v, false);
             }
-            Change::Remove(_) => {
+            Change::Remove(id) => {
+                let v = p[at];
+                let left = remember::leaving(memory, id, v);
                 let closed = table::without_vcpu(p, at, steps::vacant());
                 let shorter = table::without_id(ids, at, Tunnel::new(NOBODY));
                 p = closed;
                 ids = shorter;
+                memory = left;
                 n -= 1;
             }
             Change::Tick => {}
@@ -279,6 +303,7 @@ impl Core {
                 last: now,
                 ids,
                 timer,
+                memory,
                 running: chosen,
                 n,
             },
@@ -326,16 +351,19 @@ impl Core {
         self.turn(now, Change::Tick)
     }
 
-    // What is known of the VCPU so named. A vacant place has an identifier above 24 bits, which must not be found.
+    // What is known of the VCPU so named, or of one that left. A vacant place has an identifier above 24 bits, which must not be found.
     pub fn look(self, id: Tunnel) -> Look
         requires { ⌜ ValidCore self ⌝ }
         ensures { λ r. ⌜ paperPresence (r .presence) ≡ onCard (id .0) (card self .vcpus) ⌝ }
+        ensures { λ r. ⌜ paperRemembered (r .presence) ≡ timeOf (id .0) (card self .remembered) ⌝ }
         ensures { λ r. ⌜ r .vcpu ≡ looked (findRule (id .0) (card self .vcpus)) ⌝ }
         ensures { λ r. ⌜ paperBoundary (r .boundary) ≡ boundaryOf (findRule (id .0) (card self .vcpus)) ⌝ }
     {
         let vacant = steps::vacant();
+        let memory = self.memory;
+        let presence = remember::presence(memory, id);
         let absent = Look {
-            presence: Presence::Absent,
+            presence,
             vcpu: vacant,
             boundary: Boundary::Unset,
         };
@@ -363,17 +391,20 @@ impl Core {
         requires { ⌜ ValidCore self ⌝ }
         ensures { λ r. ⌜ (r .time .0 ≡ card self .last) × (paperHolder (r .run) ≡ card self .running) ⌝ }
         ensures { λ r. ⌜ (paperTimer (r .timer) ≡ card self .timer) × (r .vcpus ≡ length (card self .vcpus)) ⌝ }
+        ensures { λ r. ⌜ r .remembered ≡ length (card self .remembered) ⌝ }
     {
         let ids = self.ids;
         let time = self.last;
         let timer = self.timer;
         let run = table::holder(ids, self.running);
         let said = steps::timer_said(timer);
+        let memory = self.memory;
         Status {
             time,
             run,
             timer: said,
             vcpus: self.n,
+            remembered: memory.count,
         }
     }
 }

@@ -22,7 +22,7 @@ ghost use Rattle.turns.specs.Written.{never, written, noTenant, timerAt,
 ghost use Rattle.turns.specs.Calls.{described, timerSaid, paperBoundary};
 ghost use Rattle.turns.specs.Steps.{hasQueue, leftOf};
 ghost use Rattle.turns.specs.Steps.{elapsedOf, ticksAt, joinedOf, foldedOf, appendedOf, joinsOf, postedOf, spentOf, chargedOf};
-ghost use Rattle.turns.specs.Steps.{Chargeable, nextOf, returnedOne, headOf, untilNext, refilledOf, boundaryIn, runnableAs, readyOf};
+ghost use Rattle.turns.specs.Steps.{Chargeable, nextOf, returnedOne, headOf, latestOf, untilNext, refilledOf, boundaryIn, runnableAs, readyOf};
 ghost use Rattle.turns.specs.Steps.{waitsOf, pickedOf, timerFor, bare, Returnable};
 
 // The kind of a VCPU on the card, from the byte asked for. An unknown one is refused before.
@@ -278,6 +278,18 @@ pub(crate) fn returned(v: Vcpu, now: Moment) -> Vcpu
         return brought_in(v, now);
     }
     refilled(v, now)
+}
+
+// The last time that something comes to it, or a time above all: its queue stands in order.
+pub(crate) fn latest(v: Vcpu) -> Moment
+    requires { ⌜ v .count ≤ mostPending ⌝ }
+    ensures { λ r. ⌜ r ≡ moment (latestOf v) ⌝ }
+{
+    let none = v.count == 0;
+    if none {
+        return head(v);
+    }
+    v.due[(v.count - 1) as usize]
 }
 
 pub(crate) fn runnable_as(v: Vcpu, runnable: bool) -> Vcpu

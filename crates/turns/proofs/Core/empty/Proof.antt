@@ -19,12 +19,16 @@ new-requires-2 c κs = search needs
 new-requires-3 : tie.Need-new-requires-3
 new-requires-3 c κs = search needs
 
+blank-requires : tie.Need-blank-requires
+blank-requires c κs = search needs
+
 returns : tie.Need-returns
 unfolding coreOf laid
 returns c =
-    let n : tie.After-new = c .before .before in
-    first _ (rw (c .new3 .ensures, c .before .new2 .ensures, n .new .ensures, n .before .vacant .ensures))
+    let n : tie.After-new = c .before .before .before in
+    first _
+    (rw (c .blank .ensures, c .before .new3 .ensures, c .before .before .new2 .ensures, n .new .ensures, n .before .vacant .ensures))
 
 pub empty-spec : {M : Type 1} → statement M
 empty-spec =
-    tie.close (tie.spec vacant-requires new-requires new-requires-2 new-requires-3 returns)
+    tie.close (tie.spec vacant-requires new-requires new-requires-2 new-requires-3 blank-requires returns)

@@ -3,7 +3,7 @@
 use Prim.Native.Nat.{ℕ, _+_, _-_, _≤_, _<_}
 use mathlib.Core.Path.{_≡_, refl, ap, sym, _∙_, subst}
 use mathlib.Core.Logic.{⊎-elim}
-use mathlib.Core.List.{List}
+use mathlib.Core.List.{List, _++_}
 use mathlib.Core.Option.{none}
 use native.Mathlib.Omega.{arith}
 use lib.ListN.{length, set, take, drop}
@@ -16,6 +16,8 @@ use Rattle.units.specs.declared.Tunnel.{Tunnel}
 use Rattle.rules.specs.Limits.{largestTime}
 use Rattle.rules.specs.Vcpu.{admitted}
 use Rattle.rules.specs.Vcpu.{Vcpu as Tenant}
+use Rattle.rules.specs.Remember.{Remembered, kept}
+use Rattle.rules.specs.Change.{leaving}
 use Rattle.rules.specs.Change.{change as changeRule}
 use Rattle.rules.specs.Choose.{choose}
 use Rattle.rules.specs.Refuse.{refusal}
@@ -24,13 +26,15 @@ use Rattle.rules.proofs.Accepted.{Passed, passed}
 use Rattle.turns.specs.declared.Answer.{Answer}
 use Rattle.turns.specs.declared.Change.{Change}
 use Rattle.turns.specs.declared.Core.{Core}
+use Rattle.turns.specs.declared.Memory.{Memory}
 use Rattle.turns.specs.declared.Pick.{Pick}
 use Rattle.turns.specs.declared.Reply.the-variants.{Done}
 use Rattle.turns.specs.declared.Vcpu.{Vcpu}
 use Rattle.turns.specs.Calls.{asked, described}
 use Rattle.turns.specs.Steps.{picks}
 use Rattle.turns.specs.Places.{inserted, namedAt, removed}
-use Rattle.turns.specs.Written.{card, never, noTenant, written}
+use Rattle.turns.specs.Remembered.{Fixed}
+use Rattle.turns.specs.Written.{card, never, noTenant, written, memoryOf}
 use Rattle.turns.proofs.Choose.{pickFor}
 use Rattle.turns.proofs.Invariant.{Between, Listed, SoundCore, between}
 use Rattle.turns.proofs.Laid.{laid-length}
@@ -38,28 +42,32 @@ use Rattle.turns.proofs.Made.{next-between, one-more, sound}
 use Rattle.turns.proofs.Questions.{unread}
 use Rattle.turns.proofs.Rows.{idsOf}
 use Rattle.turns.proofs.Settle.{answer-found, pick-found, scan-end, scan-step, turned-accepted, turned-refused}
-use Rattle.turns.proofs.Shape.{Changeable, FilledBy, Table, change-filled, changeable, changedTable}
-use Rattle.turns.proofs.Stage.{Filled, Stands, accepted-call, charge-asks}
-use Rattle.turns.proofs.Stage.{charge-stands, idle-stands, n-is, named-card, refused-call}
+use Rattle.turns.proofs.Remembered.{memory-fixed}
+use Rattle.turns.proofs.Shape.{Changeable, FilledBy, Removable, Stepped, Table, change-filled, changeable, changedTable}
+use Rattle.turns.proofs.Stage.{Stands, accepted-call, charge-asks, charge-stands, idle-stands, n-is, named-card, refused-call}
+use Rattle.turns.proofs.Stage.{kept-few, kept-none, kept-written, memory-written, returned-sound}
 use Rattle.turns.proofs.Sweep.{Sweeping, sweep-asks, sweep-due, sweep-filled, sweep-rests, sweep-start}
 use Rattle.turns.proofs.Core.turn.Statement.{statement}
 use Rattle.turns.proofs.Core.turn.Tie as tie
 
 abbrev Inv-loop : tie.InvT-loop
-Inv-loop now change ids n at p₀ running i₀ p i = Sweeping now ids n p₀ p i
+Inv-loop now change ids n at memory p₀ running i₀ p i = Sweeping now ids n p₀ p i
 
 abbrev μ-loop : tie.MeasureT-loop
-μ-loop now change ids n at p₀ running i₀ p i = n - i
+μ-loop now change ids n at memory p₀ running i₀ p i = n - i
 
 abbrev Inv-loop2 : tie.InvT-loop2
-Inv-loop2 now ids n at p running i pick₀ j₀ pick j =
+Inv-loop2 now ids n at memory p running i pick₀ j₀ pick j =
     (j ≤ n) × (n ≤ 32) × (length p ≡ 32) × (picks pick j (drop j (take n p)) ≡ picks pick₀ 0 (take n p))
 
 abbrev μ-loop2 : tie.MeasureT-loop2
-μ-loop2 now ids n at p running i pick₀ j₀ pick j = n - j
+μ-loop2 now ids n at memory p running i pick₀ j₀ pick j = n - j
 
 -- The places of the code, in its order, and from each the way to the one before it. A local more between two of them changes the way
 -- between them and no other line.
+abbrev Recalled : Type 0
+Recalled = tie.Joined1 Inv-loop μ-loop Inv-loop2 μ-loop2
+
 abbrev Judged : Type 0
 Judged = tie.After-judged Inv-loop μ-loop Inv-loop2 μ-loop2
 
@@ -68,7 +76,7 @@ abbrev Accepted : Type 0
 Accepted = tie.After-p Inv-loop μ-loop Inv-loop2 μ-loop2
 
 abbrev Charged : Type 0
-Charged = tie.Joined1 Inv-loop μ-loop Inv-loop2 μ-loop2
+Charged = tie.Joined2 Inv-loop μ-loop Inv-loop2 μ-loop2
 
 -- in the first loop, at a place that has been read; and behind the loop
 abbrev Sweeps : Type 0
@@ -91,11 +99,14 @@ Chosen = tie.After-loop2 Inv-loop μ-loop Inv-loop2 μ-loop2
 abbrev Answered : Type 0
 Answered = tie.After-timer-said Inv-loop μ-loop Inv-loop2 μ-loop2
 
-abbrev sought : Judged → tie.After-named Inv-loop μ-loop Inv-loop2 μ-loop2
-sought c = c .before
+abbrev sought : Recalled → tie.After-named Inv-loop μ-loop Inv-loop2 μ-loop2
+sought c = c .before .before .before
 
-abbrev start : Judged → tie.Start Inv-loop μ-loop Inv-loop2 μ-loop2
+abbrev start : Recalled → tie.Start Inv-loop μ-loop Inv-loop2 μ-loop2
 start c = sought c .before .before .before
+
+abbrev recalled : Judged → Recalled
+recalled c = c .before
 
 abbrev told : Accepted → tie.After-enum-told Inv-loop μ-loop Inv-loop2 μ-loop2
 told c = c .before
@@ -130,8 +141,8 @@ timed c = held c .before .before
 abbrev chosen : Answered → Chosen
 chosen c = timed c .before
 
--- what the call was given, and the place that it names
-module _ (c : Judged) where
+-- what the call was given, the place that it names, and who is remembered at its time
+module _ (c : Recalled) where
   abbrev core : Core
   core = start c .args .self
 
@@ -144,17 +155,31 @@ module _ (c : Judged) where
   abbrev at : ℕ
   at = sought c .named .result
 
+  abbrev memory : Memory
+  memory = c .if1 .memory
+
   valid : SoundCore core
   valid = sound core (start c .pre)
-
-  named : at ≡ namedAt (idsOf (card core .vcpus)) change
-  named = named-card core now change valid at (sought c .named .ensures)
 
   few : core .n ≤ 32
   few = omega (arith, n-is core valid, between core valid .few)
 
   listed : Listed (card core .vcpus)
   listed = record { few = between core valid .few; distinct = between core valid .distinct }
+
+  abbrev rs : List Remembered
+  rs = kept (now .0) (card core .remembered)
+
+  remembered : memory ≡ memoryOf rs
+  remembered =
+      ⊎-elim (λ w. kept-written core valid (now .0) memory (w .2 ∙ w .1 .ensures)) (λ w. w .1 ∙ kept-none core valid (now .0) (w .0 .left))
+      (c .if1 .came)
+
+  fixed : Fixed memory
+  fixed = subst Fixed (sym remembered) (memory-fixed rs (omega (arith, kept-few core valid (now .0))))
+
+  named : at ≡ namedAt (idsOf (card core .vcpus)) change
+  named = named-card core now change valid at (sought c .named .ensures) memory remembered
 
   -- the rules' lists after each step
   abbrev vs₁ : List Tenant
@@ -166,113 +191,139 @@ module _ (c : Judged) where
   abbrev vs₃ : List Tenant
   vs₃ = changeRule (now .0) (asked change) vs₂
 
+  -- who is remembered after step 3
+  abbrev rs₃ : List Remembered
+  rs₃ = rs ++ leaving (asked change) vs₂
+
+-- what an accepted call was given
+abbrev given : Accepted → Recalled
+given c = recalled (judged c)
+
 -- an accepted call
 module _ (c : Accepted) where
-  accept : refusal (card (core (judged c))) (now (judged c) .0) (asked (change (judged c))) ≡ none
+  accept : refusal (card (core (given c))) (now (given c) .0) (asked (change (given c))) ≡ none
   accept =
-      accepted-call (core (judged c)) (now (judged c)) (change (judged c)) (valid (judged c)) (at (judged c))
-      (sought (judged c) .named .ensures) (judged c .judged .result) (judged c .judged .ensures) (told c .enum-told .given .1)
+      accepted-call (core (given c)) (now (given c)) (change (given c)) (valid (given c)) (at (given c)) (sought (given c) .named .ensures) (memory (given c)) (remembered (given c))
+      (judged c .judged .result) (judged c .judged .ensures) (told c .enum-told .given .1)
 
-  meets : Passed (card (core (judged c))) (now (judged c) .0) (asked (change (judged c)))
-  meets = passed (card (core (judged c))) (now (judged c) .0) (asked (change (judged c))) accept
+  meets : Passed (card (core (given c))) (now (given c) .0) (asked (change (given c)))
+  meets = passed (card (core (given c))) (now (given c) .0) (asked (change (given c))) accept
 
-  between-there : Between (now (judged c) .0) (vs₃ (judged c))
-  between-there = next-between (core (judged c)) (valid (judged c)) (now (judged c)) (change (judged c)) accept
+  between-there : Between (now (given c) .0) (vs₃ (given c))
+  between-there = next-between (core (given c)) (valid (given c)) (now (given c)) (change (given c)) accept
+
+  stepped : Stepped (card (core (given c))) (now (given c) .0)
+  stepped =
+      record {
+        listed = listed (given c);
+        few = kept-few (core (given c)) (valid (given c)) (now (given c) .0);
+        time = meets .not-above;
+        sound = returned-sound (core (given c)) (valid (given c)) (now (given c)) (change (given c)) meets;
+      }
 
 -- step 1
-after-charge : (c : Charged) → let j = judged (accepted c) in Stands (c .if1 .p) (core j .ids) (core j .n) (vs₁ j)
+after-charge : (c : Charged) → let j = given (accepted c) in Stands (c .if2 .p) (core j .ids) (core j .n) (vs₁ j)
 after-charge c =
-    let j : Judged = judged (accepted c) in
+    let j : Recalled = given (accepted c) in
     ⊎-elim
     (λ w. subst (λ (p : List Vcpu). Stands p (core j .ids) (core j .n) (vs₁ j))
     (sym (w .3 ∙ ap (set (core j .places) (core j .running)) (w .2 .ensures)))
     (charge-stands (core j) (valid j) (now j) (change j) (meets (accepted c)) unread (w .0 .taken)))
     (λ w. subst (λ (p : List Vcpu). Stands p (core j .ids) (core j .n) (vs₁ j)) (sym (w .1))
     (idle-stands (core j) (valid j) (now j) (change j) (meets (accepted c)) (w .0 .left)))
-    (c .if1 .came)
+    (c .if2 .came)
 
 -- step 2
 module _ (c : Returned) where
-  abbrev j₂ : Judged
-  j₂ = judged (accepted (charged c))
+  abbrev j₂ : Recalled
+  j₂ = given (accepted (charged c))
 
   abbrev table : Table
-  table = record { places = c .before .loop .p; ids = core j₂ .ids; n = core j₂ .n }
+  table = record { places = c .before .loop .p; ids = core j₂ .ids; n = core j₂ .n; memory = memory j₂ }
 
-  after-return : FilledBy table (vs₂ j₂)
+  after-return : FilledBy table (vs₂ j₂) (rs j₂)
   after-return =
-      sweep-filled (now j₂) (core j₂ .ids) (core j₂ .n) (charged c .if1 .p) (c .before .loop .p) (c .before .loop .i)
-      (c .before .loop .inv)
-      (c .loop-test .left) (vs₁ j₂) (after-charge (charged c) .filled) (after-charge (charged c) .fits)
+      record {
+        table =
+            sweep-filled (now j₂) (core j₂ .ids) (core j₂ .n) (charged c .if2 .p) (c .before .loop .p) (c .before .loop .i)
+            (c .before .loop .inv) (c .loop-test .left) (vs₁ j₂) (after-charge (charged c) .filled) (after-charge (charged c) .fits);
+        memory = remembered j₂;
+      }
 
   -- step 3 by the arm of the change: what it asks, and what it leaves
   module _ (asks : Change) (e : change j₂ ≡ asks) where
-    asked-place : Changeable asks (at j₂) table
+    asked-place : Changeable asks (at j₂) unread table
     asked-place =
-        subst (λ (x : Change). Changeable x (at j₂) table) e
-        (changeable (card (core j₂)) (now j₂ .0) (listed j₂) table after-return (change j₂) (at j₂) (named j₂)
+        subst (λ (x : Change). Changeable x (at j₂) unread table) e
+        (changeable (card (core j₂)) (now j₂ .0) (stepped (accepted (charged c))) table after-return (change j₂) (at j₂) unread (named j₂)
         (meets (accepted (charged c)) .asked-for))
 
-    left-by : FilledBy (changedTable (now j₂ .0) asks (at j₂) unread table) (vs₃ j₂)
+    left-by : FilledBy (changedTable (now j₂ .0) asks (at j₂) unread table) (vs₃ j₂) (rs₃ j₂)
     left-by =
-        subst (λ (x : Change). FilledBy (changedTable (now j₂ .0) x (at j₂) unread table) (vs₃ j₂)) e
-        (change-filled (card (core j₂)) (now j₂ .0) (listed j₂) table after-return (change j₂) (at j₂) unread (named j₂)
-        (meets (accepted (charged c)) .asked-for))
+        subst (λ (x : Change). FilledBy (changedTable (now j₂ .0) x (at j₂) unread table) (vs₃ j₂) (rs₃ j₂)) e
+        (change-filled (card (core j₂)) (now j₂ .0) (stepped (accepted (charged c))) table after-return (change j₂) (at j₂) unread
+        (named j₂) (meets (accepted (charged c)) .asked-for))
 
-filled-as : (p : List Vcpu) (ids : List Tunnel) (n : ℕ) (x : Table) (vs : List Tenant) → p ≡ x .places → ids ≡ x .ids → n ≡ x .n
-    → FilledBy x vs → Filled p ids n vs
-filled-as p ids n x vs u v w f = record { places = u ∙ f .places; tunnels = v ∙ f .tunnels; count = w ∙ f .count }
+filled-as : (x y : Table) (vs : List Tenant) (rs : List Remembered) → x .places ≡ y .places → x .ids ≡ y .ids → x .n ≡ y .n
+    → x .memory ≡ y .memory → FilledBy y vs rs → FilledBy x vs rs
+filled-as x y vs rs u v w m f =
+    record {
+      table = record { places = u ∙ f .table .places; tunnels = v ∙ f .table .tunnels; count = w ∙ f .table .count };
+      memory = m ∙ f .memory;
+    }
 
 module _ (c : Changed) where
-  abbrev j₃ : Judged
+  abbrev j₃ : Recalled
   j₃ = j₂ (returned c)
 
   abbrev table₂ : Table
   table₂ = table (returned c)
+
+  abbrev table₃ : Table
+  table₃ = record { places = c .match2 .p; ids = c .match2 .ids; n = c .match2 .n; memory = c .match2 .memory }
 
   -- an arm that leaves the table as its change has it
   abbrev left : Change → Table
   left asks = changedTable (now j₃ .0) asks (at j₃) unread table₂
 
   arm : (asks : Change) → change j₃ ≡ asks → c .match2 .p ≡ left asks .places → c .match2 .ids ≡ left asks .ids
-      → c .match2 .n ≡ left asks .n → Filled (c .match2 .p) (c .match2 .ids) (c .match2 .n) (vs₃ j₃)
-  arm asks e p ids n =
-      filled-as (c .match2 .p) (c .match2 .ids) (c .match2 .n) (left asks) (vs₃ j₃) p ids n (left-by (returned c) asks e)
+      → c .match2 .n ≡ left asks .n → c .match2 .memory ≡ left asks .memory → FilledBy table₃ (vs₃ j₃) (rs₃ j₃)
+  arm asks e p ids n m = filled-as table₃ (left asks) (vs₃ j₃) (rs₃ j₃) p ids n m (left-by (returned c) asks e)
 
-  after-change : Filled (c .match2 .p) (c .match2 .ids) (c .match2 .n) (vs₃ j₃)
+  after-change : FilledBy table₃ (vs₃ j₃) (rs₃ j₃)
   after-change =
       ⊎-elim
       (λ w. arm _ (w .1 .given .1)
-      (w .10 ∙ w .6 .ensures
+      (w .11 ∙ w .6 .ensures
       ∙ ap (λ (v : Vcpu). inserted (w .3 .result) v (table₂ .places)) (w .4 .ensures)
       ∙ ap (λ (k : ℕ). inserted k (written (admitted (now j₃ .0) (described (w .1 .given .0 .0)))) (table₂ .places)) (w .3 .ensures))
-      (w .8 ∙ w .7 .ensures ∙ ap (λ (k : ℕ). inserted k (w .1 .given .0 .0 .tunnel) (table₂ .ids)) (w .3 .ensures)) (w .9))
+      (w .8 ∙ w .7 .ensures ∙ ap (λ (k : ℕ). inserted k (w .1 .given .0 .0 .tunnel) (table₂ .ids)) (w .3 .ensures)) (w .9) (w .10))
       (⊎-elim
-      (λ w. arm _ (w .1 .given .1) (w .6 ∙ ap (set (table₂ .places) (at j₃)) (w .3 .ensures)) (w .4) (w .5))
+      (λ w. arm _ (w .1 .given .1) (w .7 ∙ ap (set (table₂ .places) (at j₃)) (w .3 .ensures)) (w .4) (w .5) (w .6))
       (⊎-elim
-      (λ w. arm _ (w .1 .given .1) (w .6 ∙ ap (set (table₂ .places) (at j₃)) (w .3 .ensures)) (w .4) (w .5))
+      (λ w. arm _ (w .1 .given .1) (w .7 ∙ ap (set (table₂ .places) (at j₃)) (w .3 .ensures)) (w .4) (w .5) (w .6))
       (⊎-elim
       (λ w. arm _ (w .1 .given .1)
-      (w .8 ∙ w .3 .ensures ∙ ap (λ (v : Vcpu). removed (at j₃) v (table₂ .places)) (w .2 .ensures))
-      (w .6 ∙ w .5 .ensures ∙ ap (λ (t : Tunnel). removed (at j₃) t (table₂ .ids)) (w .4 .ensures)) (w .7))
-      (λ w. arm _ (w .1 .given .1) (w .4) (w .2) (w .3)))))
+      (w .12 ∙ w .6 .ensures ∙ ap (λ (v : Vcpu). removed (at j₃) v (table₂ .places)) (w .5 .ensures))
+      (w .9 ∙ w .8 .ensures ∙ ap (λ (t : Tunnel). removed (at j₃) t (table₂ .ids)) (w .7 .ensures)) (w .10) (w .11 ∙ w .4 .ensures))
+      (λ w. arm _ (w .1 .given .1) (w .5) (w .2) (w .3) (w .4)))))
       (c .match2 .came)
 
   between-places : Between (now j₃ .0) (vs₃ j₃)
   between-places = between-there (accepted (charged (returned c)))
 
   table-few : c .match2 .n ≤ 32
-  table-few = omega (arith, after-change .count, between-places .few)
+  table-few = omega (arith, after-change .table .count, between-places .few)
 
   table-long : length (c .match2 .p) ≡ 32
-  table-long = ap length (after-change .places) ∙ laid-length written (written noTenant) 32 (vs₃ j₃)
+  table-long = ap length (after-change .table .places) ∙ laid-length written (written noTenant) 32 (vs₃ j₃)
 
 -- steps 4 and 5
 module _ (c : Answered) where
   abbrev meet : Changed
   meet = changed (choosing (chosen c))
 
-  abbrev j₅ : Judged
+  abbrev j₅ : Recalled
   j₅ = j₃ meet
 
   abbrev pick : Pick
@@ -293,7 +344,7 @@ module _ (c : Answered) where
       (choosing (chosen c) .before .new2 .ensures)
       ∙ ap (λ (m : Moment). picks (record { at = 32; usable = amount 0; soon = m }) 0 looked-at) (choosing (chosen c) .new3 .ensures)
       ∙ pick-found (now j₅ .0) (vs₃ j₅) in-time (between-places meet) (meet .match2 .p) (meet .match2 .ids) (meet .match2 .n)
-      (after-change meet)
+      (after-change meet .table)
 
   abbrev answer : Answer
   answer =
@@ -303,6 +354,7 @@ module _ (c : Answered) where
           last = now j₅;
           ids = meet .match2 .ids;
           timer = timed c .timer-for .result;
+          memory = meet .match2 .memory;
           running = pick .at;
           n = meet .match2 .n;
         };
@@ -312,8 +364,16 @@ module _ (c : Answered) where
 named-requires : tie.Need-named-requires Inv-loop μ-loop Inv-loop2 μ-loop2
 named-requires c κs = search needs
 
+kept-requires : tie.Need-kept-requires Inv-loop μ-loop Inv-loop2 μ-loop2
+kept-requires c κs =
+    let s = c .before .before .before .before .before .before in
+    memory-written (s .args .self) (sound (s .args .self) (s .pre))
+
 judged-requires : tie.Need-judged-requires Inv-loop μ-loop Inv-loop2 μ-loop2
-judged-requires c κs = search needs
+judged-requires c κs = (
+  fixed c,
+  omega (arith, ap (λ (m : Memory). m .count) (remembered c), n-is (core c) (valid c), kept-few (core c) (valid c) (now c .0)),
+)
 
 enum-told : tie.Need-enum-told Inv-loop μ-loop Inv-loop2 μ-loop2
 enum-told c = search needs
@@ -327,33 +387,36 @@ refused c = c .before .before .before
 
 returns : tie.Need-returns Inv-loop μ-loop Inv-loop2 μ-loop2
 returns c =
-    let j : Judged = refused c in
+    let v : Judged = refused c in
+    let j : Recalled = recalled v in
     one-more (core j) (now j) (change j) (start j .pre) _
     (turned-refused (core j) (now j) (change j) (c .before .verdict .given .0 .0) (valid j)
-    (refused-call (core j) (now j) (change j) (valid j) (at j) (sought j .named .ensures) (j .judged .result) (j .judged .ensures)
+    (refused-call (core j) (now j) (change j) (valid j) (at j) (sought j .named .ensures) (memory j) (remembered j)
+    (v .judged .result) (v .judged .ensures)
     (c .before .verdict .given .0 .0) (c .before .verdict .given .1)))
 
 mul-v : tie.Need-mul-v Inv-loop μ-loop Inv-loop2 μ-loop2
-mul-v c = omega (arith, few (judged (c .before)))
+mul-v c = omega (arith, few (given (c .before)))
 
 array-copy-out-v : tie.Need-array-copy-out-v Inv-loop μ-loop Inv-loop2 μ-loop2
-array-copy-out-v c = omega (arith, few (judged (c .before)))
+array-copy-out-v c = omega (arith, few (given (c .before)))
 
 charged-requires : tie.Need-charged-requires Inv-loop μ-loop Inv-loop2 μ-loop2
 charged-requires c κs =
     let a : Accepted = c .before .before in
-    charge-asks (core (judged a)) (valid (judged a)) (now (judged a)) (change (judged a)) (meets a) unread (c .before .if1 .taken)
+    let j : Recalled = given a in
+    charge-asks (core j) (valid j) (now j) (change j) (meets a) unread (c .before .if2 .taken)
 
 mul-p : tie.Need-mul-p Inv-loop μ-loop Inv-loop2 μ-loop2
-mul-p c = omega (arith, few (judged (c .before .before .before)))
+mul-p c = omega (arith, few (given (c .before .before .before)))
 
 array-set-from-p : tie.Need-array-set-from-p Inv-loop μ-loop Inv-loop2 μ-loop2
-array-set-from-p c = omega (arith, few (judged (c .before .before .before)))
+array-set-from-p c = omega (arith, few (given (c .before .before .before)))
 
 loop-holds : tie.Need-loop-holds Inv-loop μ-loop Inv-loop2 μ-loop2
 loop-holds c =
-    let j : Judged = judged (accepted c) in
-    sweep-start (now j) (core j .ids) (core j .n) (c .if1 .p) (vs₁ j) (meets (accepted c) .not-above) (few j) (after-charge c .filled)
+    let j : Recalled = given (accepted c) in
+    sweep-start (now j) (core j .ids) (core j .n) (c .if2 .p) (vs₁ j) (meets (accepted c) .not-above) (few j) (after-charge c .filled)
     (after-charge c .fits)
 
 mul-v-2 : tie.Need-mul-v-2 Inv-loop μ-loop Inv-loop2 μ-loop2
@@ -367,18 +430,18 @@ due-by-requires c κs = search needs
 
 -- one place of the first loop
 module _ (c : Sweeps) where
-  abbrev j₁ : Judged
-  j₁ = judged (accepted (sweep c .before))
+  abbrev j₁ : Recalled
+  j₁ = given (accepted (sweep c .before))
 
   abbrev Swept : List Vcpu → ℕ → Type 0
-  Swept p i = Sweeping (now j₁) (core j₁ .ids) (core j₁ .n) (sweep c .before .if1 .p) p i
+  Swept p i = Sweeping (now j₁) (core j₁ .ids) (core j₁ .n) (sweep c .before .if2 .p) p i
 
 returned-requires : tie.Need-returned-requires Inv-loop μ-loop Inv-loop2 μ-loop2
 returned-requires c κs =
     let s : Sweeps = c .before in (
-      sweep-asks (now (j₁ s)) (core (j₁ s) .ids) (core (j₁ s) .n) (sweep s .before .if1 .p) (sweep s .loop .p) (sweep s .loop .i)
+      sweep-asks (now (j₁ s)) (core (j₁ s) .ids) (core (j₁ s) .n) (sweep s .before .if2 .p) (sweep s .loop .p) (sweep s .loop .i)
           (sweep s .loop .inv) (s .before .before .loop-test .taken) unread,
-      ltb-false _ _ (not-true _ (sym (s .due-by .ensures) ∙ c .if2 .taken)),
+      ltb-false _ _ (not-true _ (sym (s .due-by .ensures) ∙ c .if3 .taken)),
     )
 
 mul-p-2 : tie.Need-mul-p-2 Inv-loop μ-loop Inv-loop2 μ-loop2
@@ -399,12 +462,12 @@ loop-again c =
     ⊎-elim
     (λ w. subst (λ (p : List Vcpu). Swept s p (sweep s .loop .i + 1))
     (sym (w .2 ∙ ap (set (sweep s .loop .p) (sweep s .loop .i)) (w .1 .ensures)))
-    (sweep-due (now (j₁ s)) (core (j₁ s) .ids) (core (j₁ s) .n) (sweep s .before .if1 .p) (sweep s .loop .p) (sweep s .loop .i)
+    (sweep-due (now (j₁ s)) (core (j₁ s) .ids) (core (j₁ s) .n) (sweep s .before .if2 .p) (sweep s .loop .p) (sweep s .loop .i)
     (sweep s .loop .inv) (s .before .before .loop-test .taken) unread))
     (λ w. subst (λ (p : List Vcpu). Swept s p (sweep s .loop .i + 1)) (sym (w .1))
-    (sweep-rests (now (j₁ s)) (core (j₁ s) .ids) (core (j₁ s) .n) (sweep s .before .if1 .p) (sweep s .loop .p) (sweep s .loop .i)
+    (sweep-rests (now (j₁ s)) (core (j₁ s) .ids) (core (j₁ s) .n) (sweep s .before .if2 .p) (sweep s .loop .p) (sweep s .loop .i)
     (sweep s .loop .inv) (s .before .before .loop-test .taken) unread (sym (s .due-by .ensures) ∙ w .0 .left)))
-    (c .if2 .came)
+    (c .if3 .came)
 
 enum-known-change : tie.Need-enum-known-change Inv-loop μ-loop Inv-loop2 μ-loop2
 enum-known-change c = search needs
@@ -482,31 +545,40 @@ mul-p-4 c = omega (arith, block-small (c .before .before))
 array-set-from-p-4 : tie.Need-array-set-from-p-4 Inv-loop μ-loop Inv-loop2 μ-loop2
 array-set-from-p-4 c = block-small (c .before .before)
 
-enum-told-4 : tie.Need-enum-told-4 Inv-loop μ-loop Inv-loop2 μ-loop2
-enum-told-4 c = search needs
+enum-known-change-2 : tie.Need-enum-known-change-2 Inv-loop μ-loop Inv-loop2 μ-loop2
+enum-known-change-2 c = search needs
 
--- the place that a remove names, and that it stands on the card
-removed-small : (c : tie.After-enum-told4 Inv-loop μ-loop Inv-loop2 μ-loop2)
-    → (at (j₂ (c .before .before)) < 32) × (1 ≤ core (j₂ (c .before .before)) .n)
-removed-small c = asked-place (c .before .before) _ (c .enum-told4 .given .1)
+-- the place that a remove names, that it stands on the card, and that there is room to remember it
+removable : (c : tie.After-known-told3 Inv-loop μ-loop Inv-loop2 μ-loop2)
+    → Removable (at (j₂ (c .before .before .before))) unread (table (c .before .before .before))
+removable c = asked-place (c .before .before .before) _ (c .before .change2 .given .1)
+
+mul-v-5 : tie.Need-mul-v-5 Inv-loop μ-loop Inv-loop2 μ-loop2
+mul-v-5 c = omega (arith, removable c .inside)
+
+array-copy-out-v-5 : tie.Need-array-copy-out-v-5 Inv-loop μ-loop Inv-loop2 μ-loop2
+array-copy-out-v-5 c = removable c .inside
+
+leaving-requires : tie.Need-leaving-requires Inv-loop μ-loop Inv-loop2 μ-loop2
+leaving-requires c κs = (removable (c .before) .room, removable (c .before) .short)
 
 vacant-requires : tie.Need-vacant-requires Inv-loop μ-loop Inv-loop2 μ-loop2
 vacant-requires c κs = search needs
 
 without-vcpu-requires : tie.Need-without-vcpu-requires Inv-loop μ-loop Inv-loop2 μ-loop2
-without-vcpu-requires c κs = removed-small (c .before) .0
+without-vcpu-requires c κs = removable (c .before .before .before) .inside
 
 new-requires : tie.Need-new-requires Inv-loop μ-loop Inv-loop2 μ-loop2
 new-requires c κs = search needs
 
 without-id-requires : tie.Need-without-id-requires Inv-loop μ-loop Inv-loop2 μ-loop2
-without-id-requires c κs = removed-small (c .before .before .before) .0
+without-id-requires c κs = removable (c .before .before .before .before .before) .inside
 
 sub-n : tie.Need-sub-n Inv-loop μ-loop Inv-loop2 μ-loop2
-sub-n c = removed-small (c .before .before .before .before) .1
+sub-n c = removable (c .before .before .before .before .before .before) .one
 
-enum-told-5 : tie.Need-enum-told-5 Inv-loop μ-loop Inv-loop2 μ-loop2
-enum-told-5 c = search needs
+enum-told-4 : tie.Need-enum-told-4 Inv-loop μ-loop Inv-loop2 μ-loop2
+enum-told-4 c = search needs
 
 new-requires-2 : tie.Need-new-requires-2 Inv-loop μ-loop Inv-loop2 μ-loop2
 new-requires-2 c κs = search needs
@@ -517,11 +589,11 @@ new-requires-3 c κs = search needs
 loop2-holds : tie.Need-loop2-holds Inv-loop μ-loop Inv-loop2 μ-loop2
 loop2-holds c = (omega arith, table-few (changed c), table-long (changed c), refl)
 
-mul-v-5 : tie.Need-mul-v-5 Inv-loop μ-loop Inv-loop2 μ-loop2
-mul-v-5 c = search needs
+mul-v-6 : tie.Need-mul-v-6 Inv-loop μ-loop Inv-loop2 μ-loop2
+mul-v-6 c = search needs
 
-array-copy-out-v-5 : tie.Need-array-copy-out-v-5 Inv-loop μ-loop Inv-loop2 μ-loop2
-array-copy-out-v-5 c = search needs
+array-copy-out-v-6 : tie.Need-array-copy-out-v-6 Inv-loop μ-loop Inv-loop2 μ-loop2
+array-copy-out-v-6 c = search needs
 
 picked-requires : tie.Need-picked-requires Inv-loop μ-loop Inv-loop2 μ-loop2
 picked-requires c κs = search needs
@@ -560,11 +632,11 @@ timer-said-requires c κs = search needs
 
 returns-2 : tie.Need-returns-2 Inv-loop μ-loop Inv-loop2 μ-loop2
 returns-2 c =
-    let j : Judged = j₅ c in
+    let j : Recalled = j₅ c in
     let m : Changed = meet c in
     one-more (core j) (now j) (change j) (start j .pre) (answer c)
-    (answer-found (now j) (vs₃ j) (in-time c) (between-places m) (m .match2 .p) (m .match2 .ids) (m .match2 .n) (after-change m) (pick c)
-    (picked-there c) (timed c .timer-for .result) (timed c .timer-for .ensures) (held c .holder .result) (held c .holder .ensures)
+    (answer-found (now j) (vs₃ j) (in-time c) (between-places m) (m .match2 .p) (m .match2 .ids) (m .match2 .n) (after-change m .table)
+    (rs₃ j) (m .match2 .memory) (after-change m .memory) (pick c) (picked-there c) (timed c .timer-for .result) (timed c .timer-for .ensures) (held c .holder .result) (held c .holder .ensures)
     (c .timer-said .result) (c .timer-said .ensures)
     ∙ sym (turned-accepted (core j) (now j) (change j) (accept (accepted (charged (returned m))))))
 
@@ -577,6 +649,7 @@ turn-spec =
     Inv-loop2
     μ-loop2
     named-requires
+    kept-requires
     judged-requires
     enum-told
     enum-known-verdict
@@ -614,18 +687,21 @@ turn-spec =
     runnable-as-requires-2
     mul-p-4
     array-set-from-p-4
-    enum-told-4
+    enum-known-change-2
+    mul-v-5
+    array-copy-out-v-5
+    leaving-requires
     vacant-requires
     without-vcpu-requires
     new-requires
     without-id-requires
     sub-n
-    enum-told-5
+    enum-told-4
     new-requires-2
     new-requires-3
     loop2-holds
-    mul-v-5
-    array-copy-out-v-5
+    mul-v-6
+    array-copy-out-v-6
     picked-requires
     add-j
     loop2-less

@@ -1,158 +1,50 @@
--- `turns::judge::judged_admit` meets its contract: the rows of admit, in the table's order. Each fact is taken where its test is
--- passed. Assumes nothing.
-use mathlib.Core.Path.{_≡_, ap₂, ap, sym, _∙_}
-use mathlib.Core.Bool.{Bool, false, not}
-use Prim.Native.Nat.{ℕ}
-use lib.Dec.{ltb, eqb}
+-- `turns::judge::judged_admit` meets its contract: the rows of what it asks for, then those of its place.
+-- Assumes nothing.
+use mathlib.Core.Path.{_≡_, ap, sym, _∙_}
 use borrow.Author.Needs.{needs}
-use Rattle.rules.specs.Limits.{largestTunnel, inRange}
-use Rattle.turns.specs.Judge.{judgeAdmit}
-use Rattle.turns.specs.declared.Description.{Description}
+use Rattle.turns.specs.declared.Verdict.{Verdict}
+use Rattle.turns.specs.declared.Verdict.the-variants.{Accept}
+use Rattle.turns.specs.Judge.{judgeTerms, judgePlace}
+use Rattle.turns.proofs.Rows.{unless, terms-then}
 use Rattle.turns.proofs.judge.judged_admit.Statement.{statement}
 use Rattle.turns.proofs.judge.judged_admit.Tie as tie
 
-abbrev terms : tie.After-number → Description
-terms c = c .before .before .before .before .args .d
+-- the terms have been judged
+module _ (c : tie.After-judged-terms) where
+  abbrev start : tie.Start
+  start = c .before
 
--- the test of row 4
-wide : (c : tie.After-number) (b : Bool) → ltb largestTunnel (c .number .result) ≡ b → ltb largestTunnel (terms c .tunnel .0) ≡ b
-wide c b e = ap (ltb largestTunnel) (sym (c .number .ensures)) ∙ e
+  abbrev place : Verdict
+  place = judgePlace (start .args .at) (start .args .n) (start .args .memory) (start .args .d .tunnel .0)
 
-narrow : (c : tie.Else1) → ltb largestTunnel (terms (c .before) .tunnel .0) ≡ false
-narrow c = wide (c .before) false (c .if1 .left)
+  both : (v : Verdict) → c .judged-terms .result ≡ v → unless v place ≡ judgeTerms (start .args .d) place
+  both v e = sym (terms-then (start .args .d) place ∙ ap (λ (x : Verdict). unless x place) (sym (c .judged-terms .ensures) ∙ e))
 
--- those of rows 5, 11 and 12
-abbrev asked : tie.After-in-range → Description
-asked c = terms (c .before .before .before .before)
+judged-terms-requires : tie.Need-judged-terms-requires
+judged-terms-requires c κs = search needs
 
-unfit : (c : tie.After-in-range) (b : Bool) → not (c .in-range .result) ≡ b → not (inRange (asked c .period .0)) ≡ b
-unfit c b e = ap not (sym (c .in-range .ensures ∙ ap inRange (c .before .before .ticks .ensures))) ∙ e
+enum-told : tie.Need-enum-told
+enum-told c = search needs
 
-nothing : (c : tie.After-in-range) (b : Bool) → eqb (c .before .ticks2 .result) 0 ≡ b → eqb (asked c .capacity .0) 0 ≡ b
-nothing c b e = ap (λ (n : ℕ). eqb n 0) (sym (c .before .ticks2 .ensures)) ∙ e
+judged-place-requires : tie.Need-judged-place-requires
+judged-place-requires c κs = search needs
 
-above : (c : tie.After-in-range) (b : Bool) → ltb (c .before .before .ticks .result) (c .before .ticks2 .result) ≡ b
-    → ltb (asked c .period .0) (asked c .capacity .0) ≡ b
-above c b e = ap₂ ltb (sym (c .before .before .ticks .ensures)) (sym (c .before .ticks2 .ensures)) ∙ e
-
-number-requires : tie.Need-number-requires
-number-requires c κs = search needs
-
-refused-requires : tie.Need-refused-requires
-refused-requires c κs = search needs
+enum-known-terms : tie.Need-enum-known-terms
+enum-known-terms c = search needs
 
 returns : tie.Need-returns
-unfolding judgeAdmit
-returns c = rw (wide (c .before .before) _ (c .before .if1 .taken)) (c .refused .ensures)
-
-ticks-requires : tie.Need-ticks-requires
-ticks-requires c κs = search needs
-
-ticks-requires-2 : tie.Need-ticks-requires-2
-ticks-requires-2 c κs = search needs
-
-in-range-requires : tie.Need-in-range-requires
-in-range-requires c κs = search needs
-
-refused-requires-2 : tie.Need-refused-requires-2
-refused-requires-2 c κs = search needs
+returns c = c .judged-place .ensures ∙ both (c .before .before .before) Accept (c .before .enum-told .given .1)
 
 returns-2 : tie.Need-returns-2
-unfolding judgeAdmit
-returns-2 c =
-    let r : tie.After-in-range = c .before .before in
-    rw (narrow (r .before .before .before), unfit r _ (c .before .if2 .taken)) (c .refused2 .ensures)
-
--- no row applied so far
-thin : (c : tie.Else2) → ltb largestTunnel (asked (c .before) .tunnel .0) ≡ false
-thin c = narrow (c .before .before .before .before)
-
-fits : (c : tie.Else2) → not (inRange (asked (c .before) .period .0)) ≡ false
-fits c = unfit (c .before) false (c .if2 .left)
-
-refused-requires-3 : tie.Need-refused-requires-3
-refused-requires-3 c κs = search needs
-
-returns-3 : tie.Need-returns-3
-unfolding judgeAdmit
-returns-3 c =
-    let e : tie.Else2 = c .before .before in
-    rw (thin e, fits e, nothing (e .before) _ (c .before .if3 .taken)) (c .refused3 .ensures)
-
-some : (c : tie.Else3) → eqb (asked (c .before .before) .capacity .0) 0 ≡ false
-some c = nothing (c .before .before) false (c .if3 .left)
-
-refused-requires-4 : tie.Need-refused-requires-4
-refused-requires-4 c κs = search needs
-
-returns-4 : tie.Need-returns-4
-unfolding judgeAdmit
-returns-4 c =
-    let f : tie.Else3 = c .before .before in
-    let e : tie.Else2 = f .before in
-    rw (thin e, fits e, some f, above (e .before) _ (c .before .if4 .taken)) (c .refused4 .ensures)
-
-within : (c : tie.Else4) → ltb (asked (c .before .before .before) .period .0) (asked (c .before .before .before) .capacity .0) ≡ false
-within c = above (c .before .before .before) false (c .if4 .left)
-
-refused-requires-5 : tie.Need-refused-requires-5
-refused-requires-5 c κs = search needs
-
-returns-5 : tie.Need-returns-5
-unfolding judgeAdmit
-returns-5 c =
-    let g : tie.Else4 = c .before .before .before in
-    let e : tie.Else2 = g .before .before in
-    rw (thin e, fits e, some (g .before), within g, c .before .if5 .taken) (c .refused5 .ensures)
-
-refused-requires-6 : tie.Need-refused-requires-6
-refused-requires-6 c κs = search needs
-
-returns-6 : tie.Need-returns-6
-unfolding judgeAdmit
-returns-6 c =
-    let g : tie.Else4 = c .before .before .before .before in
-    let e : tie.Else2 = g .before .before in
-    rw (thin e, fits e, some (g .before), within g, c .before .before .if5 .left, c .before .if6 .taken) (c .refused6 .ensures)
-
-refused-requires-7 : tie.Need-refused-requires-7
-refused-requires-7 c κs = search needs
-
-returns-7 : tie.Need-returns-7
-unfolding judgeAdmit
-returns-7 c =
-    let g : tie.Else4 = c .before .before .before .before .before in
-    let e : tie.Else2 = g .before .before in
-    let k = c .before .before in
-    rw (thin e, fits e, some (g .before), within g, k .before .if5 .left, k .if6 .left, c .before .if7 .taken) (c .refused7 .ensures)
-
-returns-8 : tie.Need-returns-8
-unfolding judgeAdmit
-returns-8 c =
-    let g : tie.Else4 = c .before .before .before .before in
-    let e : tie.Else2 = g .before .before in
-    rw (thin e, fits e, some (g .before), within g, c .before .before .if5 .left, c .before .if6 .left, c .if7 .left)
+returns-2 c = both (c .before .before .before) _ (c .before .terms .given .1)
 
 pub judged-admit-spec : {M : Type 1} → statement M
 judged-admit-spec =
     tie.close
     (tie.spec
-    number-requires
-    refused-requires
+    judged-terms-requires
+    enum-told
+    judged-place-requires
+    enum-known-terms
     returns
-    ticks-requires
-    ticks-requires-2
-    in-range-requires
-    refused-requires-2
-    returns-2
-    refused-requires-3
-    returns-3
-    refused-requires-4
-    returns-4
-    refused-requires-5
-    returns-5
-    refused-requires-6
-    returns-6
-    refused-requires-7
-    returns-7
-    returns-8)
+    returns-2)
