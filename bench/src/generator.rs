@@ -4,7 +4,9 @@ use crate::call::{Change, Description, Reply};
 use std::fmt::{self, Display, Formatter};
 
 /// What is asked: how many VCPUs; mixed (0), busy (1), mixed with a third of the VCPUs of each kind
-/// (2), or leaving and coming back, of all kinds too (3); how many calls.
+/// (2), leaving and coming back, of all kinds too (3), short uses and a gap in turn, so that 2, 4 or 8
+/// fall due at once (4 to 6), or the call behind the first such gap, again and again on the same card
+/// (7 to 9); how many calls.
 #[derive(Clone, Copy)]
 pub struct Plan {
     pub vcpus: u64,
@@ -12,11 +14,25 @@ pub struct Plan {
     pub calls: u64,
 }
 
+impl Plan {
+    /// How many calls are made, each on the card that the one before left; the others are made on the
+    /// card as it stands then.
+    pub fn in_turn(&self) -> u64 {
+        if self.mix < 7 {
+            return self.calls;
+        }
+        self.calls.min(self.vcpus + cycle(self.mix, self.vcpus))
+    }
+}
+
 /// Stands for no timer; no timer is so late.
 const NEVER: u64 = u64::MAX;
 
 /// Stands for idle; no identifier is so large.
 const NOBODY: u64 = 16777216;
+
+/// The period in the runs with gaps, and the gap.
+const GAP: u64 = 1000;
 
 /// What the generator remembers: the time of the last accepted call and the timer; the sums, of
 /// times and timers, of the identifiers that ran, of usable amounts, of refusals' numbers, of their
@@ -51,7 +67,7 @@ fn id_of(k: u64) -> u32 {
 
 /// All are sporadic, but for the mixes of the three kinds.
 fn kind_in(mix: u64, d: u64) -> u8 {
-    if mix >= 2 {
+    if mix == 2 || mix == 3 {
         (d / 7 % 3) as u8
     } else {
         0
@@ -131,10 +147,53 @@ fn leaving(k: u64, n: u64, d: u64, kind: u8, last: u64, timer: u64) -> (u64, Cha
     (now, change)
 }
 
+/// The later its admission, the more urgent; 8 uses of a tick each leave it some.
+fn patient(k: u64) -> Description {
+    Description {
+        id: id_of(k),
+        period: GAP as u32,
+        capacity: 20,
+        priority: (255 - k % 256) as u8,
+        kind: 0,
+    }
+}
+
+/// How many calls there are from one gap to the next. In so many each VCPU is used twice, as it wakes
+/// and as the more urgent one blocks; one that is alone has to wake twice for that.
+fn cycle(mix: u64, n: u64) -> u64 {
+    let used_twice = if n == 1 { 4 } else { 2 * n };
+    match mix {
+        4 | 7 => used_twice,
+        5 | 8 => 2 * used_twice,
+        _ => 4 * used_twice,
+    }
+}
+
+/// Many short uses, then a gap of a period with nobody runnable, so that all that is pending falls due
+/// at one call. All block, the most urgent first, and wake, the least urgent first, a tick after each
+/// other. The most urgent one is used half as often as the others.
+fn gaps(k: u64, n: u64, mix: u64, last: u64) -> (u64, Change) {
+    let at = k % (2 * n);
+    if k < n {
+        (last, Change::Admit(patient(k)))
+    } else if at < n {
+        (last + 1, Change::Block(id_of(n - 1 - at)))
+    } else if (k - n) % cycle(mix, n) == 0 {
+        (last + GAP, Change::Wake(id_of(0)))
+    } else {
+        (last + 1, Change::Wake(id_of(at - n)))
+    }
+}
+
 fn call(k: u64, plan: Plan, s: u64, seen: &Seen) -> (u64, Change) {
     let (n, d) = (plan.vcpus, s / 64);
     let kind = kind_in(plan.mix, d);
-    if k < n {
+    if k >= plan.in_turn() {
+        // By then all that was used is due. It wakes one, so that the reply tells what came back.
+        (3 * GAP + k % 16, Change::Wake(id_of(0)))
+    } else if plan.mix >= 4 {
+        gaps(k, n, plan.mix, seen.last)
+    } else if k < n {
         (seen.last, Change::Admit(terms(k, d, kind)))
     } else if k < n + n {
         (seen.last, Change::Wake(id_of(k - n)))
@@ -194,7 +253,7 @@ mod tests {
 
     #[test]
     fn plain_and_twin_reply_alike() {
-        for mix in 0..=3 {
+        for mix in 0..=6 {
             for vcpus in [1, 8, 32] {
                 let calls = 30_000;
                 let plan = Plan { vcpus, mix, calls };
@@ -203,6 +262,59 @@ mod tests {
                     said(plan, plain::Core::empty()),
                     twin,
                     "{mix}, {vcpus} VCPUs"
+                );
+            }
+        }
+    }
+
+    /// How many entries are pending with each VCPU at a call behind a gap, the last admitted last.
+    fn pending_at_gaps(plan: Plan) -> Vec<Vec<usize>> {
+        let mut core = plain::Core::empty();
+        let (mut last, mut found) = (0, Vec::new());
+        run(plan, |now, change| {
+            let before = core.pending();
+            let reply = core.turn(now, change);
+            assert!(reply.is_ok(), "at {now}");
+            if now >= last + GAP && before.iter().any(|&count| count > 0) {
+                assert!(core.pending().iter().all(|&count| count == 0), "at {now}");
+                found.push(before);
+            }
+            last = now;
+            reply
+        });
+        found
+    }
+
+    /// And so in the first call that is made again and again.
+    #[test]
+    fn so_many_uses_fall_due_at_once() {
+        for (mix, uses) in [(4, 2), (5, 4), (6, 8), (7, 2), (8, 4), (9, 8)] {
+            for vcpus in [1, 8, 32] {
+                let mut plan = Plan {
+                    vcpus,
+                    mix,
+                    calls: 3000,
+                };
+                if mix >= 7 {
+                    plan.calls = plan.in_turn() + 1;
+                }
+                let mut all = vec![uses; vcpus as usize];
+                if vcpus > 1 {
+                    *all.last_mut().unwrap() = uses / 2;
+                }
+                let found = pending_at_gaps(plan);
+                let gaps = if mix >= 7 {
+                    1
+                } else {
+                    (3000 - vcpus) / cycle(mix, vcpus)
+                };
+                assert!(
+                    found.len() as u64 >= gaps.saturating_sub(1).max(1),
+                    "{mix}, {vcpus}: {found:?}"
+                );
+                assert!(
+                    found.iter().all(|some| *some == all),
+                    "{mix}, {vcpus}: {found:?}"
                 );
             }
         }

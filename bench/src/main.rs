@@ -19,7 +19,7 @@ const USAGE: &str = "usage: bench COMMAND
   calls plain|twin      the program `pace` in place: its fifteen digits from standard input
   card plain|twin       the program `card` in place: event records to lines
   records N MIX CALLS   the calls of `calls` as event records (MIX: 0 mixed, 1 busy, 2 thirds,
-                        3 leaving)
+                        3 leaving, 4 to 6 with gaps, so that 2, 4 or 8 fall due at once)
   sizing twin           the program `sizing` in place: best queries alone
   time-sizing PROGRAM [--seed S] [--families N] [--changes N] [--rounds N] [--plain S] [--full 1]";
 
@@ -34,9 +34,16 @@ fn asked() -> Option<Plan> {
     })
 }
 
-fn calls(mut core: impl Scheduler) -> io::Result<()> {
+fn calls(mut core: impl Scheduler + Clone) -> io::Result<()> {
     let plan = asked().ok_or(io::Error::other("fifteen digits are wanted"))?;
-    let seen = generator::run(plan, |now, change| core.turn(now, change));
+    let mut left = plan.in_turn();
+    let seen = generator::run(plan, |now, change| {
+        if left == 0 {
+            return core.clone().turn(now, change);
+        }
+        left -= 1;
+        core.turn(now, change)
+    });
     println!("{seen}");
     Ok(())
 }
@@ -50,7 +57,7 @@ fn card(core: impl Scheduler) -> io::Result<()> {
 
 fn records(words: &[&str]) -> io::Result<()> {
     let numbers: Vec<u64> = words.iter().filter_map(|word| word.parse().ok()).collect();
-    let &[vcpus, mix, calls] = &numbers[..] else {
+    let &[vcpus, mix @ 0..=6, calls] = &numbers[..] else {
         return Err(io::Error::other(USAGE));
     };
     let mut core = plain::Core::empty();

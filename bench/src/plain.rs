@@ -131,6 +131,7 @@ struct Gone {
     until: u64,
 }
 
+#[derive(Clone)]
 pub struct Core {
     last: u64,
     timer: Option<u64>,
@@ -156,6 +157,13 @@ impl Core {
 
     fn vcpus(&self) -> &[Vcpu] {
         &self.table[..self.count]
+    }
+
+    /// How many entries each has.
+    #[cfg(test)]
+    pub fn pending(&self) -> Vec<usize> {
+        let counts = self.vcpus().iter().map(|vcpu| vcpu.count.into());
+        counts.collect()
     }
 
     fn find(&self, id: u32) -> Option<usize> {

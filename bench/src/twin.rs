@@ -61,14 +61,13 @@ impl Vcpu {
         if self.kind != SPORADIC {
             return self.refill(now);
         }
-        while self.due[0] <= now {
-            self.usable += self.amount[0];
-            self.due.copy_within(1.., 0);
-            self.due[MOST_PENDING - 1] = NEVER;
-            self.amount.copy_within(1.., 0);
-            self.amount[MOST_PENDING - 1] = 0;
-            self.count -= 1;
-        }
+        let returned = self.due.iter().take_while(|due| **due <= now).count();
+        self.usable += self.amount[..returned].iter().sum::<u32>();
+        self.due.copy_within(returned.., 0);
+        self.due[MOST_PENDING - returned..].fill(NEVER);
+        self.amount.copy_within(returned.., 0);
+        self.amount[MOST_PENDING - returned..].fill(0);
+        self.count -= returned as u8;
     }
 
     fn refill(&mut self, now: u64) {
@@ -122,6 +121,7 @@ fn admitted(new: Description, now: u64) -> Vcpu {
     v
 }
 
+#[derive(Clone)]
 pub struct Core {
     places: [Vcpu; MOST_VCPUS],
     last: u64,

@@ -1,7 +1,8 @@
 // Times the calls: it makes them from a deterministic generator, and writes sums over the replies and how many were refused. Each kind of
 // number has a sum of its own: moments, identifiers, amounts, and the numbers and the details of refusals.
-// Standard input: four digits for how many VCPUs, one for the mix (0 mixed, 1 busy, 2 mixed with a third of the VCPUs of each kind, 3 leaving
-// and coming back, of all kinds too), ten for how many calls.
+// Standard input: four digits for how many VCPUs, one for the mix, ten for how many calls. The mixes: 0 mixed, 1 busy, 2 mixed with a third
+// of the VCPUs of each kind, 3 leaving and coming back, of all kinds too, 4 to 6 short uses and a gap in turn, so that 2, 4 or 8 fall due
+// at once, 7 to 9 the call behind the first such gap, again and again on the same card.
 use libc::STDIN_FILENO;
 use libc::STDOUT_FILENO;
 use turns::Answer;
@@ -18,6 +19,7 @@ use units::Amount;
 use units::Moment;
 use units::Tunnel;
 ghost use Prim.Native.Nat.{_≤_, _<_};
+ghost use Rattle.turns.specs.State.{ValidCore};
 
 // Stands for no timer; no timer is so late.
 const NEVER: u64 = 18446744073709551615;
@@ -26,6 +28,9 @@ const NEVER: u64 = 18446744073709551615;
 const TOO_LARGE: u32 = LARGEST_TUNNEL + 1;
 
 const NOBODY: u64 = TOO_LARGE as u64;
+
+// The period in the runs with gaps, and the gap.
+const GAP: u32 = 1000;
 
 struct Event {
     now: Moment,
@@ -51,7 +56,11 @@ fn id_of(k: u64) -> Tunnel {
 
 // All are sporadic, but for the mixes of the three kinds.
 fn kind_in(mix: u64, d: u64) -> u8 {
-    if 2 <= mix { (d / 7 % 3) as u8 } else { 0 }
+    if mix == 2 || mix == 3 {
+        (d / 7 % 3) as u8
+    } else {
+        0
+    }
 }
 
 fn described(k: u64, d: u64, kind: u8, capacity: Amount) -> Description {
@@ -249,9 +258,99 @@ fn leaving(k: u64, n: u64, d: u64, kind: u8, last: Moment, timer: Moment) -> Eve
     Event { now, change }
 }
 
+// The later its admission, the more urgent; 8 uses of a tick each leave it some.
+fn patient(k: u64) -> Description {
+    let tunnel = id_of(k);
+    let period = Amount::new(GAP);
+    Description {
+        tunnel,
+        period,
+        capacity: Amount::new(20),
+        priority: (255 - k % 256) as u8,
+        kind: 0,
+    }
+}
+
+// In so many calls each VCPU is used twice, as it wakes and as the more urgent one blocks; one that is alone has to wake twice for that.
+fn used_twice(n: u64) -> u64
+    requires { ⌜ (1 ≤ n) × (n ≤ 9999) ⌝ }
+    ensures { λ r. ⌜ (1 ≤ r) × (r ≤ 19998) ⌝ }
+{
+    if n == 1 {
+        return 4;
+    }
+    n + n
+}
+
+// How many calls there are from one gap to the next.
+fn cycle(mix: u64, n: u64) -> u64
+    requires { ⌜ (1 ≤ n) × (n ≤ 9999) ⌝ }
+    ensures { λ r. ⌜ (1 ≤ r) × (r ≤ 100000) ⌝ }
+{
+    if mix == 4 || mix == 7 {
+        return used_twice(n);
+    }
+    if mix == 5 || mix == 8 {
+        return 2 * used_twice(n);
+    }
+    4 * used_twice(n)
+}
+
+// Many short uses, then a gap of a period with nobody runnable, so that all that is pending falls due at one call. All block, the most
+// urgent first, and wake, the least urgent first, a tick after each other: each use is a tick, and no two of a VCPU join. (The most urgent
+// one is used half as often as the others.)
+fn gaps(k: u64, n: u64, mix: u64, last: Moment) -> Event
+    requires { ⌜ (1 ≤ n) × (n ≤ 9999) ⌝ }
+{
+    if k < n {
+        let new = patient(k);
+        return Event {
+            now: last,
+            change: Change::Admit(new),
+        };
+    }
+    let step = last.plus(Amount::new(1));
+    let at = k % (n + n);
+    if at < n {
+        let tired = id_of(n - 1 - at);
+        return Event {
+            now: step,
+            change: Change::Block(tired),
+        };
+    }
+    let fresh = id_of(at - n);
+    let rested = (k - n) % cycle(mix, n) == 0;
+    let now = if rested {
+        last.plus(Amount::new(GAP))
+    } else {
+        step
+    };
+    Event {
+        now,
+        change: Change::Wake(fresh),
+    }
+}
+
+// The call behind the gap: by then, at three gaps, all that was used is due. It wakes one, so that the reply tells what came back, and no
+// two in a row are at the same time.
+fn behind_gap(k: u64) -> Event {
+    let late = Moment::new(3 * (GAP as u64) + k % 16);
+    let fresh = id_of(0);
+    Event {
+        now: late,
+        change: Change::Wake(fresh),
+    }
+}
+
 fn call(k: u64, n: u64, mix: u64, s: u64, last: Moment, timer: Moment) -> Event
     requires { ⌜ (1 ≤ n) × (n ≤ 9999) ⌝ }
 {
+    if 7 <= mix && n + cycle(mix, n) <= k {
+        return behind_gap(k);
+    }
+    if 4 <= mix {
+        return gaps(k, n, mix, last);
+    }
     let d = s / 64;
     let kind = kind_in(mix, d);
     if k < n {
@@ -368,18 +467,22 @@ fn draw(s: u64) -> u64
     (s % 2147483648 * 1103515245 + 12345) % 2147483648
 }
 
-fn ran(n: u64, mix: u64, calls: u64) -> Seen
-    requires { ⌜ (1 ≤ n) × (n ≤ 9999) ⌝ }
+// Some calls: what the last one was answered, what was seen of all, and the last number drawn.
+struct Calls {
+    answer: Answer,
+    seen: Seen,
+    drawn: u64,
+}
+
+fn begun() -> Calls
+    ensures { λ r. ⌜ ValidCore (r .answer .core) ⌝ }
 {
     let core = Core::empty();
-    let mut answer = Answer {
-        core,
-        reply: Reply::No(Refusal {
-            number: 0,
-            detail: 0,
-        }),
+    let refusal = Refusal {
+        number: 0,
+        detail: 0,
     };
-    let mut had = Seen {
+    let seen = Seen {
         last: Moment::new(0),
         timer: Moment::new(NEVER),
         times: 0,
@@ -389,21 +492,72 @@ fn ran(n: u64, mix: u64, calls: u64) -> Seen
         details: 0,
         refused: 0,
     };
-    let mut s = 12345u64;
-    let mut k = 0u64;
-    while k < calls {
-        s = draw(s);
-        let last = had.last;
-        let timer = had.timer;
-        let c = call(k, n, mix, s, last, timer);
+    Calls {
+        answer: Answer {
+            core,
+            reply: Reply::No(refusal),
+        },
+        seen,
+        drawn: 12345,
+    }
+}
+
+// The calls from number `from` to `to`.
+fn ran(start: Calls, n: u64, mix: u64, from: u64, to: u64) -> Calls
+    requires { ⌜ (1 ≤ n) × (n ≤ 9999) ⌝ }
+    requires { ⌜ ValidCore (start .answer .core) ⌝ }
+    ensures { λ r. ⌜ ValidCore (r .answer .core) ⌝ }
+{
+    let mut answer = start.answer;
+    let mut seen = start.seen;
+    let mut drawn = start.drawn;
+    let mut k = from;
+    while k < to {
+        drawn = draw(drawn);
+        let last = seen.last;
+        let timer = seen.timer;
+        let c = call(k, n, mix, drawn, last, timer);
         let now = c.now;
         let change = c.change;
         answer = answer.core.turn(now, change);
         let reply = answer.reply;
-        had = noted(had, reply);
+        seen = noted(seen, reply);
         k += 1;
     }
-    had
+    Calls {
+        answer,
+        seen,
+        drawn,
+    }
+}
+
+// The calls from number `from` to `to`, each on the card as it stands in `kept`.
+fn again(kept: Calls, n: u64, mix: u64, from: u64, to: u64) -> Seen
+    requires { ⌜ (1 ≤ n) × (n ≤ 9999) ⌝ }
+    requires { ⌜ ValidCore (kept .answer .core) ⌝ }
+{
+    let mut start = kept;
+    let mut k = from;
+    while k < to {
+        let one = ran(start, n, mix, k, k + 1);
+        let seen = one.seen;
+        start.seen = seen;
+        k += 1;
+    }
+    start.seen
+}
+
+fn paced(n: u64, mix: u64, calls: u64) -> Seen
+    requires { ⌜ (1 ≤ n) × (n ≤ 9999) ⌝ }
+{
+    let start = begun();
+    let gap = n + cycle(mix, n);
+    if mix < 7 || calls < gap {
+        let all = ran(start, n, mix, 0, calls);
+        return all.seen;
+    }
+    let kept = ran(start, n, mix, 0, gap);
+    again(kept, n, mix, gap, calls)
 }
 
 fn put(sum: u64) {
@@ -417,7 +571,7 @@ fn main() {
     let n = least_one(number(&input, 0, 4));
     let mix = number(&input, 4, 5);
     let calls = number(&input, 5, 15);
-    let had = ran(n, mix, calls);
+    let had = paced(n, mix, calls);
     put(had.times);
     put(had.tunnels);
     put(had.amounts);

@@ -7,19 +7,10 @@ use Rattle.pace.proofs.ran.Statement.{statement}
 use Rattle.pace.proofs.ran.Tie as tie
 
 abbrev Inv-loop : tie.InvT-loop
-Inv-loop n mix calls answer₀ had₀ s₀ k₀ answer had s k = ValidCore (answer .core)
+Inv-loop n mix from to answer₀ seen₀ drawn₀ k₀ answer seen drawn k = ValidCore (answer .core)
 
 abbrev μ-loop : tie.MeasureT-loop
-μ-loop n mix calls answer₀ had₀ s₀ k₀ answer had s k = calls - k
-
-empty-requires : tie.Need-empty-requires Inv-loop μ-loop
-empty-requires c κs = search needs
-
-new-requires : tie.Need-new-requires Inv-loop μ-loop
-new-requires c κs = search needs
-
-new-requires-2 : tie.Need-new-requires-2 Inv-loop μ-loop
-new-requires-2 c κs = search needs
+μ-loop n mix from to answer₀ seen₀ drawn₀ k₀ answer seen drawn k = to - k
 
 loop-holds : tie.Need-loop-holds Inv-loop μ-loop
 loop-holds c = search needs
@@ -39,7 +30,7 @@ noted-requires c κs = search needs
 add-k : tie.Need-add-k Inv-loop μ-loop
 add-k c =
     let test = c .before .before .before .before .before .before .before in
-    record { fits = omega (arith, test .loop-test .taken, test .before .before .before .before .before .fits .calls) }
+    record { fits = omega (arith, test .loop-test .taken, test .before .before .before .before .fits .to) }
 
 loop-less : tie.Need-loop-less Inv-loop μ-loop
 loop-less c = search needs
@@ -56,9 +47,6 @@ ran-spec =
     (tie.spec
     Inv-loop
     μ-loop
-    empty-requires
-    new-requires
-    new-requires-2
     loop-holds
     draw-requires
     call-requires
