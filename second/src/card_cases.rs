@@ -5,6 +5,7 @@ use crate::kind_cases;
 use crate::offsets;
 use crate::reached::Reached;
 use crate::refusal::Refusal;
+use crate::return_cases;
 use crate::row_cases;
 use crate::stay_cases;
 use crate::turns::{Call, Change, Charged, Core, Description, Reply, Vcpu};
@@ -19,6 +20,7 @@ pub struct Notes {
     at_one_moment: u32,
     folded: BTreeSet<u32>,
     kinds: kind_cases::Notes,
+    returns: return_cases::Notes,
     pub stays: stay_cases::Notes,
 }
 
@@ -30,7 +32,7 @@ pub struct Before {
     count: usize,
     rows: Vec<u32>,
     was_runnable: bool,
-    returns: Vec<(bool, usize)>,
+    returns: return_cases::Before,
     kinds: kind_cases::Before,
     stays: stay_cases::Before,
 }
@@ -58,18 +60,14 @@ fn word(change: &Change) -> &'static str {
 pub fn before(core: &Core, call: &Call, notes: &Notes) -> Before {
     let named = identifier(&call.change);
     let vcpu = named.and_then(|identifier| core.vcpus.get(&identifier));
-    let returning = |vcpu: &Vcpu| {
-        let all = vcpu.pending_count(core.last);
-        (vcpu.runnable(), all - vcpu.pending_count(call.time.max(core.last)))
-    };
     Before {
         last: core.last,
         timer: core.timer,
-        running: core.chosen().map(Vcpu::without_history),
+        running: core.chosen().map(|vcpu| vcpu.without_history(core.last)),
         count: core.vcpus.len(),
         rows: row_cases::rows(core, call),
         was_runnable: vcpu.is_some_and(|vcpu| vcpu.runnable()),
-        returns: core.vcpus.values().map(returning).collect(),
+        returns: return_cases::before(core, call),
         kinds: kind_cases::before(core, call, named, &notes.kinds),
         stays: stay_cases::before(core, call, named),
     }
@@ -94,12 +92,12 @@ pub fn note(
             note_time(before, call, reached);
             note_moment(before, call, notes, reached);
             note_charge(before, call, core, notes, reached);
-            note_returns(before, reached);
             note_change(before, call, core, reached);
             note_choice(before, core, reached);
             note_timer(reply, core, reached);
             let held = before.running.as_ref().map(|vcpu| vcpu.description.identifier);
             kind_cases::note(&before.kinds, call, core, held, &mut notes.kinds, reached);
+            return_cases::note(&before.returns, call, core, &mut notes.returns, reached);
             let folded = identifier(&call.change).is_some_and(|named| notes.folded.contains(&named));
             stay_cases::note(&before.stays, call, core, held, folded, &mut notes.stays, reached);
             notes.folded.retain(|identifier| core.vcpus.contains_key(identifier));
@@ -175,13 +173,6 @@ fn note_charge(before: &Before, call: &Call, core: &Core, notes: &mut Notes, rea
         Charged::Entry => drop(notes.folded.remove(&identifier)),
         _ => (),
     }
-}
-
-fn note_returns(before: &Before, reached: &mut Reached) {
-    let returning = before.returns.iter().filter(|(_, count)| *count > 0);
-    reached.add_if(returning.clone().any(|(runnable, _)| !runnable), "a return to one not runnable");
-    reached.add_if(returning.clone().any(|(_, count)| *count > 1), "two entries of one return");
-    reached.add_if(returning.count() > 1, "returns to two");
 }
 
 fn note_change(before: &Before, call: &Call, core: &Core, reached: &mut Reached) {
@@ -261,6 +252,7 @@ pub fn asked() -> Vec<String> {
     let mut all: Vec<String> = PLAIN.iter().map(|case| case.to_string()).collect();
     all.extend(endings::all_cases());
     all.extend(kind_cases::asked());
+    all.extend(return_cases::asked());
     all.extend(row_cases::asked());
     all.extend(stay_cases::asked());
     all.extend(offsets::asked());
@@ -280,7 +272,7 @@ pub fn asked() -> Vec<String> {
     all
 }
 
-const PLAIN: [&str; 52] = [
+const PLAIN: [&str; 49] = [
     "1 by one tick",
     "3 by one tick",
     "7 though the low 16 bits are on the card",
@@ -305,9 +297,6 @@ const PLAIN: [&str; 52] = [
     "removed while it ran",
     "a join behind a fold",
     "a fold behind a fold",
-    "a return to one not runnable",
-    "two entries of one return",
-    "returns to two",
     "a wake of a runnable one",
     "a block of one not runnable",
     "the card becomes full",

@@ -8,7 +8,9 @@ use crate::lines::{self, Card};
 use crate::random::Random;
 use crate::reached::Reached;
 use crate::records;
+use crate::returns;
 use crate::row_cases;
+use crate::script::{self, Scripts};
 use crate::turns::{Call, Change, Core, Description, Vcpu};
 use crate::turns::{LARGEST_IDENTIFIER, LARGEST_PERIOD, LARGEST_TIME};
 
@@ -93,7 +95,8 @@ pub struct Generator<'a> {
     kinds: Kinds,
     /// What refused admits between the calls are drawn from, if there are any.
     refused: Option<Random>,
-    /// What those who leave and come back between the calls are drawn from, if there are any.
+    /// What the scripts, and those who leave and come back between the calls, are drawn from, if
+    /// there are any.
     leaving: Option<Random>,
     /// As before request 3: nobody is remembered.
     #[cfg(test)]
@@ -114,14 +117,26 @@ pub fn run(seed: u64, place: u64, length: u64, reached: &mut Reached) -> Run {
     generator.write(place, length)
 }
 
-/// The script that a run of this place begins with, if it does: a quarter of the runs, in each
-/// mood but that which leaps over nearly all of time. They are gone through one by one.
-fn script_at(place: u64) -> Option<u64> {
+/// The scripts that runs begin with, by tens of places as the kinds are: those of the returns have
+/// sporadic ones alone.
+const SCRIPTS: [Scripts; KINDS.len()] = [&leaving::SCRIPTS, &returns::SCRIPTS, &[], &[]];
+
+/// The scripts of a place and the number of its own, if it has one: half of the runs, in each mood
+/// but that which leaps over nearly all of time. They are gone through one by one.
+fn script_at(place: u64) -> Option<(Scripts, u64)> {
     let moods = MOODS.len();
     let (tens, mood) = (place / moods as u64, (place % moods as u64) as usize);
-    let fits = tens % KINDS.len() as u64 == 0 && !MOODS[mood].late;
+    let scripts = SCRIPTS[(tens % KINDS.len() as u64) as usize];
+    let fits = !scripts.is_empty() && !MOODS[mood].late;
     let fitting = |some: &[Mood]| some.iter().filter(|mood| !mood.late).count() as u64;
-    fits.then(|| tens / KINDS.len() as u64 * fitting(&MOODS) + fitting(&MOODS[..mood]))
+    let number = tens / KINDS.len() as u64 * fitting(&MOODS) + fitting(&MOODS[..mood]);
+    fits.then_some((scripts, number))
+}
+
+/// Whether the run of that place admits sporadic ones alone.
+#[cfg(test)]
+pub fn is_sporadic(place: u64) -> bool {
+    kinds_at(place) == Kinds::Sporadic
 }
 
 fn kinds_at(place: u64) -> Kinds {
@@ -216,8 +231,9 @@ impl Generator<'_> {
     }
 
     fn put_script(&mut self, place: u64) {
-        let (Some(random), Some(number)) = (&mut self.leaving, script_at(place)) else { return };
-        for call in leaving::calls(number, &self.core, random) {
+        let (Some(random), Some((scripts, number))) = (&mut self.leaving, script_at(place)) else { return };
+        let script = scripts[(number % scripts.len() as u64) as usize];
+        for call in script::calls(script, &self.core, random) {
             self.put(records::write(&call));
         }
     }
@@ -591,9 +607,12 @@ mod tests {
     /// Each of them twice or more in the smallest comparison, and none left out.
     #[test]
     fn the_scripts_are_gone_through_one_by_one() {
-        let numbers: Vec<u64> = (0..300).filter_map(script_at).collect();
-        assert!(numbers.iter().copied().eq(0..numbers.len() as u64), "{numbers:?}");
-        assert!(numbers.len() >= 2 * leaving::COUNT, "{}", numbers.len());
+        for (sort, scripts) in SCRIPTS.iter().enumerate() {
+            let places = (0..300).filter(|place| place / 10 % 4 == sort as u64);
+            let numbers: Vec<u64> = places.filter_map(script_at).map(|(_, number)| number).collect();
+            assert!(numbers.iter().copied().eq(0..numbers.len() as u64), "{numbers:?}");
+            assert!(numbers.len() >= 2 * scripts.len(), "{}", numbers.len());
+        }
     }
 
     /// The whole records with their lines.

@@ -1,19 +1,11 @@
 //! Tenants who leave and come back: short scripts for the front of a run, on a card where nobody
-//! is runnable. A script follows the card with turns of its own, so that its times fit.
+//! is runnable.
 
-use crate::random::Random;
-use crate::turns::{Call, Change, Core, Description};
+use crate::script::Script;
+use crate::turns::{Change, Description};
 use crate::turns::{LARGEST_IDENTIFIER, LARGEST_PERIOD, LARGEST_TIME, MOST_PENDING, MOST_VCPUS};
 
-struct Script {
-    core: Core,
-    random: Random,
-    calls: Vec<Call>,
-}
-
-pub const COUNT: usize = 19;
-
-const SCRIPTS: [fn(&mut Script); COUNT] = [
+pub const SCRIPTS: [fn(&mut Script); 19] = [
     |script| script.comes_back(0),
     |script| script.comes_back(1),
     |script| script.comes_back(2),
@@ -35,32 +27,10 @@ const SCRIPTS: [fn(&mut Script); COUNT] = [
     Script::rows_before_9,
 ];
 
-/// The calls of the script of that number, from the card as it stands.
-pub fn calls(number: u64, core: &Core, random: &mut Random) -> Vec<Call> {
-    let mut script = Script { core: core.clone(), random: Random::new(random.next()), calls: Vec::new() };
-    SCRIPTS[(number % COUNT as u64) as usize](&mut script);
-    script.calls
-}
-
 /// Period and capacity of one that is forgotten a tick later.
 const UNIT: (u32, u32) = (1, 1);
 
 impl Script {
-    fn put(&mut self, time: u64, change: Change) {
-        let call = Call { time, change };
-        // Many are there to be refused.
-        self.core.call(&call).ok();
-        self.calls.push(call);
-    }
-
-    fn put_now(&mut self, change: Change) {
-        self.put(self.core.last, change);
-    }
-
-    fn any(&mut self) -> u32 {
-        self.random.below(u64::from(LARGEST_IDENTIFIER) + 1) as u32
-    }
-
     /// Terms that have room for all that a script holds.
     fn terms(&mut self, identifier: u32, kind: u8) -> Description {
         let period = self.random.between(16, 60) as u32;
@@ -83,22 +53,12 @@ impl Script {
         self.put(start + held, Change::Remove(identifier));
     }
 
-    fn admit_now(&mut self, tenants: &[Description]) {
-        for tenant in tenants {
-            self.put_now(Change::Admit(*tenant));
-        }
-    }
-
     /// Stays that hold nothing and end where they begin.
     fn leave_at_once(&mut self, tenants: &[Description]) {
         let now = self.core.last;
         for tenant in tenants {
             self.stay(now, *tenant, 0);
         }
-    }
-
-    fn until(&self, identifier: u32) -> u64 {
-        self.core.remembered_until(identifier, self.core.last).unwrap_or(self.core.last)
     }
 
     /// Asks for it at once, one tick too early, and for all that a remembered one is not.

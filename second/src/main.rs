@@ -13,11 +13,16 @@ mod lines;
 mod offsets;
 mod outside;
 mod picture;
+#[cfg(test)]
+mod plain_card;
 mod queries;
 mod query_cases;
 mod reached;
 mod records;
+mod return_cases;
+mod returns;
 mod row_cases;
+mod script;
 mod sizing;
 mod stay_cases;
 mod stays;
@@ -30,6 +35,8 @@ mod wrong_cards;
 mod wrong_memories;
 #[cfg(test)]
 mod wrong_replies;
+#[cfg(test)]
+mod wrong_returns;
 #[cfg(test)]
 mod wrong_sizings;
 

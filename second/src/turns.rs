@@ -204,6 +204,11 @@ impl Vcpu {
         self.pending(moment).map(|entry| entry.due).min()
     }
 
+    /// When so many of the entries that are pending at a moment have come back.
+    pub fn return_of(&self, count: usize, moment: u64) -> u64 {
+        (0..count).fold(moment, |due, _| self.earliest_return(due).expect("so many are pending"))
+    }
+
     pub fn latest_return(&self, moment: u64) -> Option<u64> {
         self.pending(moment).map(|entry| entry.due).max()
     }
@@ -219,10 +224,15 @@ impl Vcpu {
         self.next_boundary(moment).or_else(|| self.earliest_return(moment))
     }
 
-    /// The same VCPU, its entries left out.
-    pub fn without_history(&self) -> Vcpu {
+    /// The same VCPU, the entries that have returned at a moment left out.
+    pub fn without_history(&self, moment: u64) -> Vcpu {
         let kept = match self.kept {
-            Kept::Sporadic { use_ended, .. } => Kept::Sporadic { entries: Vec::new(), use_ended },
+            Kept::Sporadic { use_ended, .. } => {
+                // They are given the latest first, and kept the oldest first.
+                let mut entries: Vec<Entry> = self.pending(moment).copied().collect();
+                entries.reverse();
+                Kept::Sporadic { entries, use_ended }
+            }
             Kept::Deferrable(round) => Kept::Deferrable(round),
             Kept::Polling(round) => Kept::Polling(round),
         };
@@ -424,6 +434,13 @@ impl Core {
 
     pub fn chosen(&self) -> Option<&Vcpu> {
         self.running.map(|identifier| &self.vcpus[&identifier])
+    }
+
+    /// The one that holds the core, as step 1 of a call at `now` leaves it.
+    pub fn holder_charged(&self, now: u64) -> Option<Vcpu> {
+        let mut holder = self.chosen()?.without_history(self.last);
+        holder.charge(self.last, now);
+        Some(holder)
     }
 
     /// The earliest pending return or next boundary of a runnable VCPU more urgent than the

@@ -1,13 +1,11 @@
-//! Cards with one fault each, to see that `outside` finds it. A card here keeps its ticks as
-//! numbers and has deferrable and polling tenants alone; it follows the calls that the right
-//! card accepts.
+//! Cards with one fault each, to see that `outside` finds it. A card here has deferrable and
+//! polling tenants alone.
 
 use crate::generate::Run;
 use crate::outside::{self, check_run};
-use crate::records;
+use crate::plain_card::{self, Kept, Tenant};
 use crate::stays::Counts;
-use crate::turns::{Change, Description};
-use std::collections::BTreeMap;
+use crate::turns::Description;
 
 #[derive(Clone, Copy, PartialEq, Debug)]
 enum Fault {
@@ -31,124 +29,64 @@ const FAULTS: [Fault; 7] = [
     Fault::TimerStandsStill,
 ];
 
-struct Tenant {
-    terms: Description,
+struct Rounds {
+    fault: Fault,
     admitted: u64,
-    runnable: bool,
-    usable: u64,
     boundary: u64,
 }
 
-impl Tenant {
-    fn polls(&self) -> bool {
-        self.terms.kind == 2
-    }
+impl Kept for Rounds {
+    fn charge(_: &mut Tenant<Rounds>, _: u64, _: u64) {}
 
-    fn refill(&mut self, now: u64, fault: Fault) {
-        let (period, capacity) = (u64::from(self.terms.period), u64::from(self.terms.capacity));
-        if now < self.boundary {
+    fn bring_in(tenant: &mut Tenant<Rounds>, now: u64) {
+        let (period, capacity) = (u64::from(tenant.terms.period), u64::from(tenant.terms.capacity));
+        let Rounds { fault, boundary, .. } = tenant.kept;
+        if now < boundary {
             return;
         }
-        let served = !self.polls() || self.runnable || fault == Fault::RefillsTheBlocked;
-        self.usable = match fault {
-            Fault::NeverRefills => self.usable,
+        let served = !polls(tenant) || tenant.runnable || fault == Fault::RefillsTheBlocked;
+        tenant.usable = match fault {
+            Fault::NeverRefills => tenant.usable,
             _ if !served => 0,
-            Fault::RefillAdds => self.usable + capacity,
+            Fault::RefillAdds => tenant.usable + capacity,
             _ => capacity,
         };
         if fault != Fault::ForgetsTheBoundary {
-            self.boundary += ((now - self.boundary) / period + 1) * period;
+            tenant.kept.boundary += ((now - boundary) / period + 1) * period;
         }
     }
 
-    /// For the timer, which is right whatever the refills do: counted from the admission.
-    fn next_boundary(&self, now: u64, fault: Fault) -> u64 {
-        let (period, passed) = (u64::from(self.terms.period), now - self.admitted);
+    fn leave(tenant: &mut Tenant<Rounds>, runnable: bool, now: u64) {
+        let fault = tenant.kept.fault;
+        if fault == Fault::CountsFromTheWake && runnable && !tenant.runnable {
+            tenant.kept.boundary = now + u64::from(tenant.terms.period);
+        }
+        if polls(tenant) && !runnable && fault != Fault::KeepsWhenBlocked {
+            tenant.usable = 0;
+        }
+    }
+
+    /// Right whatever the refills do: counted from the admission.
+    fn comes_next(tenant: &Tenant<Rounds>, now: u64, _: bool) -> Option<u64> {
+        let Rounds { fault, admitted, .. } = tenant.kept;
+        let (period, passed) = (u64::from(tenant.terms.period), now - admitted);
         let rounds = match fault {
             Fault::TimerStandsStill => passed.div_ceil(period),
             _ => passed / period + 1,
         };
-        self.admitted + rounds * period
-    }
-
-    fn urgency(&self) -> (u8, u32) {
-        (self.terms.priority, self.terms.identifier)
-    }
-
-    fn leave(&mut self, runnable: bool, now: u64, fault: Fault) {
-        if fault == Fault::CountsFromTheWake && runnable && !self.runnable {
-            self.boundary = now + u64::from(self.terms.period);
-        }
-        self.runnable = runnable;
-        if self.polls() && !runnable && fault != Fault::KeepsWhenBlocked {
-            self.usable = 0;
-        }
+        Some(admitted + rounds * period)
     }
 }
 
-struct Card {
-    fault: Fault,
-    tenants: BTreeMap<u32, Tenant>,
-    running: Option<u32>,
-    last: u64,
+fn polls(tenant: &Tenant<Rounds>) -> bool {
+    tenant.terms.kind == 2
 }
 
-impl Card {
-    fn change(&mut self, change: &Change, now: u64) {
-        match *change {
-            Change::Admit(terms) => {
-                let boundary = now + u64::from(terms.period);
-                let usable = u64::from(terms.capacity);
-                let mut tenant = Tenant { terms, admitted: now, runnable: false, usable, boundary };
-                tenant.leave(false, now, self.fault);
-                self.tenants.insert(terms.identifier, tenant);
-            }
-            Change::Remove(identifier) => drop(self.tenants.remove(&identifier)),
-            Change::Wake(identifier) => self.leave(identifier, true, now),
-            Change::Block(identifier) => self.leave(identifier, false, now),
-            Change::Tick => (),
-        }
-    }
-
-    fn leave(&mut self, identifier: u32, runnable: bool, now: u64) {
-        let fault = self.fault;
-        self.tenants.get_mut(&identifier).expect("it was accepted").leave(runnable, now, fault);
-    }
-
-    fn line(&mut self, change: &Change, now: u64) -> String {
-        if let Some(tenant) = self.running.and_then(|identifier| self.tenants.get_mut(&identifier)) {
-            tenant.usable = tenant.usable.saturating_sub(now - self.last);
-        }
-        self.tenants.values_mut().for_each(|tenant| tenant.refill(now, self.fault));
-        self.change(change, now);
-        let able = self.tenants.values().filter(|tenant| tenant.runnable && tenant.usable > 0);
-        let chosen = able.min_by_key(|tenant| tenant.urgency());
-        let timer = self.timer(chosen, now).map_or("-".to_string(), |timer| timer.to_string());
-        let told = chosen
-            .map_or("- 0".to_string(), |tenant| format!("{} {}", tenant.terms.identifier, tenant.usable));
-        (self.running, self.last) = (chosen.map(|tenant| tenant.terms.identifier), now);
-        format!("ok {now} {told} {timer}\n")
-    }
-
-    /// Where the chosen one is used up, or a boundary of it or of a runnable more urgent one.
-    fn timer(&self, chosen: Option<&Tenant>, now: u64) -> Option<u64> {
-        let counts = |tenant: &&Tenant| {
-            tenant.runnable && chosen.is_none_or(|chosen| tenant.urgency() <= chosen.urgency())
-        };
-        let boundaries =
-            self.tenants.values().filter(counts).map(|tenant| tenant.next_boundary(now, self.fault));
-        boundaries.chain(chosen.map(|tenant| now + tenant.usable)).min()
-    }
-}
-
-/// What the card with the fault writes where the right one wrote these lines.
+/// What the card with the fault writes.
 fn output(run: &Run, fault: Fault) -> String {
-    let mut card = Card { fault, tenants: BTreeMap::new(), running: None, last: 0 };
-    let line = |(record, right): (&Vec<u8>, &String)| match records::read(record) {
-        Ok((call, _)) if right.starts_with("ok") => card.line(&call.change, call.time),
-        _ => right.clone(),
-    };
-    run.records.iter().zip(&run.lines).map(line).collect()
+    let keep =
+        |terms: &Description, now| Rounds { fault, admitted: now, boundary: now + u64::from(terms.period) };
+    plain_card::output(run, keep)
 }
 
 /// What `outside` finds in each run of these kinds alone.

@@ -231,11 +231,11 @@ fn seen(runs: &[Run], fault: Fault, sees: impl Fn(&Run, &str) -> bool) -> usize 
     runs.iter().filter(|run| sees(run, &output(run, fault))).count()
 }
 
-fn differs(run: &Run, output: &str) -> bool {
+pub fn differs(run: &Run, output: &str) -> bool {
     first_difference(run, output.as_bytes()).is_some()
 }
 
-fn fails_outside(run: &Run, output: &str) -> bool {
+pub fn fails_outside(run: &Run, output: &str) -> bool {
     outside::check_run(run, output, &mut Counts::default()).is_err()
 }
 

@@ -1,11 +1,12 @@
--- A list laid into an array: reading and writing a place, one more at the end, one put in, one taken out, the front, and a front laid
--- anew.
+-- A list laid into an array: reading and writing a place, one more at the end, one put in, one taken out, the first ones taken out, the
+-- front, and a front laid anew.
 -- Assumes nothing.
 use Prim.Native.Nat.{ℕ, zero, suc, _≤_, _<_}
 use mathlib.Core.Path.{_≡_, refl, ap, sym, _∙_}
-use mathlib.Core.List.{List, [], _∷_, _++_, map, append-assoc}
+use mathlib.Core.List.{List, [], _∷_, _++_, map, append-assoc, append-nil}
 use native.Mathlib.Omega.{arith}
-use lib.ListN.{length, take, drop, getD, set}
+use native.Mathlib.Numerals.{add-one}
+use lib.ListN.{length, take, drop, getD, set, replicate, replicate-append-replicate, length-drop}
 use lib.Seq.{getD-at, set-at, set-append-left}
 use Rattle.turns.specs.Laid.{laid}
 use Rattle.turns.specs.Places.{inserted, removed}
@@ -81,6 +82,17 @@ module _ {A B : Type 0} (f : A → B) (z : B) where
   laid-cut zero (x ∷ l) i h g = absurd (omega arith)
   laid-cut (suc k) (x ∷ l) zero h g = sym (laid-more k l (omega arith))
   laid-cut (suc k) (x ∷ l) (suc i) h g = ap (λ (r : List B). f x ∷ r) (laid-cut k l i (omega arith) (omega arith))
+
+  pub laid-drop : (k n : ℕ) (l : List A) → n ≤ length l → length l ≤ k → laid k f z (drop n l) ≡ drop n (laid k f z l) ++ replicate n z
+  unfolding laid
+  laid-drop k zero l h g = sym (append-nil (laid k f z l))
+  laid-drop k (suc n) [] h g = absurd (omega arith)
+  laid-drop zero (suc n) (x ∷ l) h g = absurd (omega arith)
+  laid-drop (suc k) (suc n) (x ∷ l) h g =
+      laid-more k (drop n l) (omega (arith, length-drop n l))
+      ∙ ap (λ (r : List B). r ++ z ∷ []) (laid-drop k n l (omega arith) (omega arith))
+      ∙ append-assoc (drop n (laid k f z l)) (replicate n z) (z ∷ [])
+      ∙ ap (λ (r : List B). drop n (laid k f z l) ++ r) (replicate-append-replicate n 1 z ∙ ap (λ (m : ℕ). replicate m z) (add-one n))
 
   pub laid-front : (k : ℕ) (l : List A) → length l ≤ k → take (length l) (laid k f z l) ≡ map f l
   unfolding laid

@@ -1,30 +1,28 @@
--- The return step on a written record: one turn of the loop over its queue takes the front entry, and where nothing is due the record
--- is as the rule leaves it. Assumes nothing.
-use Prim.Native.Nat.{ℕ, suc, _+_, _-_, _≤_, _<_}
+-- The return step on a written record: where the first n slots are due and the next is not, the record from the slot n on is as the rule
+-- leaves it, and so is the whole record where nothing is due. Assumes nothing.
+use Prim.Native.Nat.{ℕ, zero, suc, _+_, _-_, _≤_, _<_}
 use mathlib.Core.Path.{_≡_, refl, ap, sym, _∙_, subst}
-use mathlib.Core.Bool.{true, false, not}
+use mathlib.Core.Bool.{Bool, true, false}
 use mathlib.Core.List.{List, [], _∷_, _++_, map}
 use mathlib.Core.Option.{Option, none, some}
 use native.Mathlib.Omega.{arith}
-use lib.Dec.{ltb}
-use lib.ListN.{length, getD}
-use borrow.Author.Tests.{ltb-true, ltb-false, le-leb, lt-leb, not-true, not-false}
-use Rattle.units.specs.Units.{moment, amount, tunnel}
+use lib.Dec.{ltb, eqb}
+use lib.ListN.{length, take, drop, getD, replicate, length-drop}
+use lib.Seq.{take-all}
+use borrow.Author.Tests.{ltb-false, le-leb, lt-leb, eqb-true, eqb-false}
+use Rattle.units.specs.Units.{moment, amount}
 use Rattle.units.specs.declared.Moment.{Moment}
 use Rattle.units.specs.declared.Amount.{Amount}
 use Rattle.rules.specs.Lists.{sum}
 use Rattle.rules.specs.Vcpu.{Entry, times, comes}
 use Rattle.rules.specs.Vcpu.{Vcpu as Tenant}
-use Rattle.rules.specs.Return.{returned, refill, broughtIn, brought, still}
-use Rattle.rules.proofs.Tests.{clash}
-use Rattle.turns.specs.declared.Kind.{Kind}
-use Rattle.turns.specs.declared.Kind.the-variants.{Sporadic, Deferrable, Polling}
+use Rattle.rules.specs.Return.{isDue, returned, refill, broughtIn, brought, still}
 use Rattle.turns.specs.declared.Vcpu.{Vcpu}
 use Rattle.turns.specs.Laid.{laid}
-use Rattle.turns.specs.Written.{never, amountOf, paperKind, kindAs, written, shown}
-use Rattle.turns.specs.Steps.{hasQueue, nextOf, returnedOne, headOf, ticksAt, bare, Returnable}
-use Rattle.turns.proofs.Laid.{laid-length, laid-more}
-use Rattle.turns.proofs.Written.{under, Formed, queue, refills, dueOf, withQueue, as-queue, boundary-none, shown-written}
+use Rattle.turns.specs.Written.{never, amountOf, kindAs, written, shown}
+use Rattle.turns.specs.Steps.{hasQueue, fromOf, ticksIn, returnedFirst, headOf, bare, Returnable}
+use Rattle.turns.proofs.Laid.{laid-length, laid-drop}
+use Rattle.turns.proofs.Written.{Formed, queue, refills, dueOf, withQueue, as-queue, boundary-none}
 
 -- the first of some times, or the time above all
 abbrev pub first : List ℕ → ℕ
@@ -41,7 +39,7 @@ pub head-written : (v : Tenant) → headOf (written v) ≡ first (comes v)
 unfolding written
 head-written v = first-laid (comes v)
 
--- a tenant with other usable ticks and another queue; and one whose front entry became usable
+-- a tenant with other usable ticks and another queue
 abbrev queued : Tenant → ℕ → List Entry → Tenant
 queued v u q =
     record {
@@ -52,25 +50,6 @@ queued v u q =
       pending = q;
       boundary = v .boundary;
     }
-
-abbrev taken : Tenant → Entry → List Entry → Tenant
-taken v e q = queued v (v .usable + e .amount) q
-
-seven : {A : Type 0} (o z : A) (l : List A) → length l ≡ 7
-    → getD l 0 o ∷ getD l 1 o ∷ getD l 2 o ∷ getD l 3 o ∷ getD l 4 o ∷ getD l 5 o ∷ getD l 6 o ∷ z ∷ [] ≡ l ++ z ∷ []
-seven o z (a ∷ b ∷ c ∷ d ∷ e ∷ f ∷ g ∷ []) h = refl
-seven o z [] h = absurd (omega arith)
-seven o z (a ∷ []) h = absurd (omega arith)
-seven o z (a ∷ b ∷ []) h = absurd (omega arith)
-seven o z (a ∷ b ∷ c ∷ []) h = absurd (omega arith)
-seven o z (a ∷ b ∷ c ∷ d ∷ []) h = absurd (omega arith)
-seven o z (a ∷ b ∷ c ∷ d ∷ e ∷ []) h = absurd (omega arith)
-seven o z (a ∷ b ∷ c ∷ d ∷ e ∷ f ∷ []) h = absurd (omega arith)
-seven o z (a ∷ b ∷ c ∷ d ∷ e ∷ f ∷ g ∷ i ∷ l) h = absurd (omega arith)
-
-nexts : {A : Type 0} (f : Entry → A) (z o : A) (e : Entry) (q : List Entry) → length q ≤ 7 → nextOf o z (laid 8 f z (e ∷ q)) ≡ laid 8 f z q
-unfolding laid
-nexts f z o e q h = seven o z (laid 7 f z q) (laid-length f z 7 q) ∙ sym (laid-more f z 7 q h)
 
 abbrev asRecord : Tenant → List Moment → List Amount → ℕ → ℕ → Vcpu
 asRecord v ds bs u n =
@@ -90,33 +69,6 @@ asRecord v ds bs u n =
 same-record : (v : Tenant) (ds ds′ : List Moment) (bs bs′ : List Amount) (u u′ n n′ : ℕ)
     → ds ≡ ds′ → bs ≡ bs′ → u ≡ u′ → n ≡ n′ → asRecord v ds bs u n ≡ asRecord v ds′ bs′ u′ n′
 same-record v ds ds′ bs bs′ u u′ n n′ p q r s = rw (p, q, r, s)
-
-ticks-front : (e : Entry) (q : List Entry) → (getD (laid 8 amountOf (amount 0) (e ∷ q)) 0 (amount 0)) .0 ≡ e .amount
-unfolding laid
-ticks-front e q = refl
-
-one-queue : (v : Tenant) (e : Entry) (q : List Entry) → length q ≤ 7
-    → returnedOne (withQueue (queued v (v .usable) (e ∷ q)) (e ∷ q)) ≡ withQueue (taken v e q) q
-unfolding written returnedOne
-one-queue v e q h =
-    same-record v (nextOf (moment 0) (moment never) (laid 8 dueOf (moment never) (e ∷ q))) (laid 8 dueOf (moment never) q)
-    (nextOf (amount 0) (amount 0) (laid 8 amountOf (amount 0) (e ∷ q))) (laid 8 amountOf (amount 0) q)
-    (v .usable + (getD (laid 8 amountOf (amount 0) (e ∷ q)) 0 (amount 0)) .0) (v .usable + e .amount)
-    (length (e ∷ q) - 1) (length q)
-    (nexts dueOf (moment never) (moment 0) e q h)
-    (nexts amountOf (amount 0) (amount 0) e q h)
-    (ap (λ (n : ℕ). v .usable + n) (ticks-front e q))
-    (omega arith)
-
-one : (v : Tenant) (e : Entry) (q : List Entry) → v .boundary ≡ none → length q ≤ 7
-    → returnedOne (written (queued v (v .usable) (e ∷ q))) ≡ written (taken v e q)
-one v e q n h = ap returnedOne (as-queue (queued v (v .usable) (e ∷ q)) n) ∙ one-queue v e q h ∙ sym (as-queue (taken v e q) n)
-
--- the rule on a queue whose front is due, and where nothing is due
-returned-due : (now : ℕ) (v : Tenant) (e : Entry) (q : List Entry) → e .due ≤ now
-    → returned now (queued v (v .usable) (e ∷ q)) ≡ returned now (taken v e q)
-returned-due now v e q h =
-    ap (refill now (v .boundary)) (rw (le-leb (e .due) now h) (ap (λ (u : ℕ). queued v u (still now q)) (omega arith)))
 
 bring-none : (now : ℕ) (v : Tenant) → now < first (map (λ e. e .due) (v .pending)) → broughtIn now v ≡ v
 bring-none now v h = go (v .pending) refl h
@@ -147,128 +99,156 @@ returned-none now v l f h =
     apart (refills k m p b e) =
         (rw p l, subst (λ (q : List Entry). now < first (map (λ e. e .due) q ++ times (v .boundary))) p h)
 
--- what the loop knows of a returnable record with a queue: the tenant it is written from, and the time of its front
-module _ (w : Vcpu) (now : Moment) (r : Returnable w now) (k : hasQueue (w .kind) ≡ true) where
-  kind-zero : (x : Kind) → hasQueue x ≡ true → paperKind x ≡ 0
-  kind-zero Sporadic e = refl
-  kind-zero Deferrable e = clash (sym e)
-  kind-zero Polling e = clash (sym e)
+-- an array of eight from the slot k on, by the elements that stay
+eight-from : {A : Type 0} (o z : A) (l : List A) (k : ℕ) → length l ≡ 8 → k ≤ 8 → fromOf o z k l ≡ drop k l ++ replicate k z
+eight-from o z (a ∷ b ∷ c ∷ d ∷ e ∷ f ∷ g ∷ h ∷ []) k p q = go k q
+  where
+    go : (k : ℕ) → k ≤ 8 → fromOf o z k (a ∷ b ∷ c ∷ d ∷ e ∷ f ∷ g ∷ h ∷ []) ≡ drop k (a ∷ b ∷ c ∷ d ∷ e ∷ f ∷ g ∷ h ∷ []) ++ replicate k z
+    go zero q = refl
+    go (suc zero) q = refl
+    go (suc (suc zero)) q = refl
+    go (suc (suc (suc zero))) q = refl
+    go (suc (suc (suc (suc zero)))) q = refl
+    go (suc (suc (suc (suc (suc zero))))) q = refl
+    go (suc (suc (suc (suc (suc (suc zero)))))) q = refl
+    go (suc (suc (suc (suc (suc (suc (suc zero))))))) q = refl
+    go (suc (suc (suc (suc (suc (suc (suc (suc zero)))))))) q = refl
+    go (suc (suc (suc (suc (suc (suc (suc (suc (suc k))))))))) q = absurd (omega arith)
+eight-from o z [] k p q = absurd (omega arith)
+eight-from o z (a ∷ []) k p q = absurd (omega arith)
+eight-from o z (a ∷ b ∷ []) k p q = absurd (omega arith)
+eight-from o z (a ∷ b ∷ c ∷ []) k p q = absurd (omega arith)
+eight-from o z (a ∷ b ∷ c ∷ d ∷ []) k p q = absurd (omega arith)
+eight-from o z (a ∷ b ∷ c ∷ d ∷ e ∷ []) k p q = absurd (omega arith)
+eight-from o z (a ∷ b ∷ c ∷ d ∷ e ∷ f ∷ []) k p q = absurd (omega arith)
+eight-from o z (a ∷ b ∷ c ∷ d ∷ e ∷ f ∷ g ∷ []) k p q = absurd (omega arith)
+eight-from o z (a ∷ b ∷ c ∷ d ∷ e ∷ f ∷ g ∷ h ∷ i ∷ l) k p q = absurd (omega arith)
 
+from-laid : {A : Type 0} (f : Entry → A) (o z : A) (n : ℕ) (q : List Entry) → n ≤ length q → length q ≤ 8
+    → fromOf o z n (laid 8 f z q) ≡ laid 8 f z (drop n q)
+from-laid f o z n q h l = eight-from o z (laid 8 f z q) n (laid-length f z 8 q) (omega arith) ∙ sym (laid-drop f z 8 n q h l)
+
+ticks-laid : (m n : ℕ) (q : List Entry) → n ≤ length q → length q ≤ m
+    → ticksIn n (laid m amountOf (amount 0) q) ≡ sum (λ e. e .amount) (take n q)
+unfolding laid
+ticks-laid m zero q h l = refl
+ticks-laid m (suc n) [] h l = absurd (omega arith)
+ticks-laid zero (suc n) (e ∷ q) h l = absurd (omega arith)
+ticks-laid (suc m) (suc n) (e ∷ q) h l = ap (λ (k : ℕ). e .amount + k) (ticks-laid m n q (omega arith) (omega arith))
+
+-- sums of a front: one more, and a longer front
+pub sum-more : {A : Type 0} (f : A → ℕ) (o : A) (l : List A) (i : ℕ) → i < length l
+    → sum f (take i l) + f (getD l i o) ≡ sum f (take (suc i) l)
+sum-more f o [] i h = absurd (omega arith)
+sum-more f o (x ∷ l) zero h = omega arith
+sum-more f o (x ∷ l) (suc i) h = omega (arith, sum-more f o l i (omega arith))
+
+pub sum-longer : {A : Type 0} (f : A → ℕ) (l : List A) (i k : ℕ) → i ≤ k → sum f (take i l) ≤ sum f (take k l)
+sum-longer f l zero k h = omega arith
+sum-longer f l (suc i) zero h = absurd (omega arith)
+sum-longer f [] (suc i) (suc k) h = omega arith
+sum-longer f (x ∷ l) (suc i) (suc k) h = omega (arith, sum-longer f l i k (omega arith))
+
+-- the first n of a queue are due, and the next is not: what the rule brings, and what it leaves
+record Front (now n : ℕ) (q : List Entry) : Type 0 where
+  ticks : brought now q ≡ sum (λ e. e .amount) (take n q)
+  rest : still now q ≡ drop n q
+  enough : n ≤ length q
+
+abbrev slot : ℕ → List Entry → ℕ → ℕ
+slot m q i = (getD (laid m dueOf (moment never) q) i (moment 0)) .0
+
+front : (now m n : ℕ) (q : List Entry) → now < never → length q ≤ m → n ≤ m → ((i : ℕ) → i < n → slot m q i ≤ now)
+    → (n < m → now < slot m q n) → Front now n q
+unfolding laid
+front now m zero [] t l h d e = record { ticks = refl; rest = refl; enough = omega arith }
+front now zero zero (f ∷ q) t l h d e = absurd (omega arith)
+front now (suc m) zero (f ∷ q) t l h d e =
+    let x : isDue now f ≡ false = lt-leb (f .due) now (e (omega arith)) in
+    record { ticks = rw x; rest = rw x; enough = omega arith }
+front now zero (suc n) q t l h d e = absurd (omega arith)
+front now (suc m) (suc n) [] t l h d e = absurd (omega (arith, d 0 (omega arith)))
+front now (suc m) (suc n) (f ∷ q) t l h d e =
+    let x : isDue now f ≡ true = le-leb (f .due) now (d 0 (omega arith)) in
+    let g = front now m n q t (omega arith) (omega arith) (λ i k. d (suc i) (omega arith)) (λ k. e (omega arith)) in
+    record {
+      ticks = rw x (ap (λ (k : ℕ). f .amount + k) (g .ticks));
+      rest = rw x (g .rest);
+      enough = omega (arith, g .enough);
+    }
+
+-- the time in a slot
+abbrev pub dueAt : Vcpu → ℕ → ℕ
+dueAt w i = (getD (w .due) i (moment 0)) .0
+
+-- the first n slots are due: one, from the head, and one more
+abbrev pub Due : Vcpu → Moment → ℕ → Type 0
+Due w now n = (i : ℕ) → i < n → dueAt w i ≤ now .0
+
+pub due-head : (w : Vcpu) (now : Moment) → headOf w ≤ now .0 → Due w now 1
+due-head w now h zero k = h
+due-head w now h (suc i) k = absurd (omega arith)
+
+pub due-more : (w : Vcpu) (now : Moment) (n : ℕ) → Due w now n → ltb (now .0) (dueAt w n) ≡ false → Due w now (suc n)
+due-more w now n d e i h = go (eqb i n) refl
+  where
+    go : (t : Bool) → eqb i n ≡ t → dueAt w i ≤ now .0
+    go true s = subst (λ (j : ℕ). dueAt w j ≤ now .0) (sym (eqb-true i n s)) (ltb-false (now .0) (dueAt w n) e)
+    go false s = d i (omega (arith, eqb-false i n s))
+
+-- n slots of a record that has a queue can be taken, and what is left is as the rule leaves it
+pub record Swept (w : Vcpu) (now : Moment) (n : ℕ) : Type 0 where
+  pub asks : ((n ≤ w .count) × (n ≤ 8)) × (w .usable .0 + ticksIn n (w .amount) < 4294967296)
+  pub end : returnedFirst n w ≡ written (returned (now .0) (bare w))
+
+module _ (w : Vcpu) (now : Moment) (r : Returnable w now) (k : hasQueue (w .kind) ≡ true) where
   alone : bare w .boundary ≡ none
   unfolding shown
   alone = boundary-none (w .kind) (getD (w .due) 0 (moment 0)) k
 
-  sporadic : bare w .terms .kind ≡ 0
+  abbrev q : List Entry
+  q = bare w .pending
+
+  laid-out : w ≡ withQueue (bare w) q
+  laid-out = r .written ∙ as-queue (bare w) alone
+
+  ends : (n : ℕ) → Front (now .0) n q → returnedFirst n w ≡ written (returned (now .0) (bare w))
+  unfolding returnedFirst written
+  ends n f =
+      ap (returnedFirst n) laid-out
+      ∙ same-record (bare w)
+      (fromOf (moment 0) (moment never) n (laid 8 dueOf (moment never) q)) (laid 8 dueOf (moment never) (still (now .0) q))
+      (fromOf (amount 0) (amount 0) n (laid 8 amountOf (amount 0) q)) (laid 8 amountOf (amount 0) (still (now .0) q))
+      (bare w .usable + ticksIn n (laid 8 amountOf (amount 0) q)) (bare w .usable + brought (now .0) q)
+      (length q - n) (length (still (now .0) q))
+      (from-laid dueOf (moment 0) (moment never) n q (f .enough) (r .few) ∙ ap (laid 8 dueOf (moment never)) (sym (f .rest)))
+      (from-laid amountOf (amount 0) (amount 0) n q (f .enough) (r .few) ∙ ap (laid 8 amountOf (amount 0)) (sym (f .rest)))
+      (ap (λ (t : ℕ). bare w .usable + t) (ticks-laid 8 n q (f .enough) (r .few) ∙ sym (f .ticks)))
+      (sym (ap length (f .rest) ∙ length-drop n q))
+      ∙ sym (as-queue (broughtIn (now .0) (bare w)) alone)
+      ∙ ap (λ (o : Option ℕ). written (refill (now .0) o (broughtIn (now .0) (bare w)))) (sym alone)
+
+  pub swept : (n : ℕ) → n ≤ 8 → Due w now n → (n < 8 → now .0 < dueAt w n) → Swept w now n
   unfolding shown
-  sporadic = kind-zero (w .kind) k
-
-  in-time : now .0 < never
-  in-time = omega (arith, r .time)
-
-  head-bare : headOf w ≡ first (map (λ e. e .due) (bare w .pending))
-  head-bare =
-      ap headOf (r .written) ∙ head-written (bare w)
-      ∙ ap (λ (o : Option ℕ). first (map (λ e. e .due) (bare w .pending) ++ times o)) alone
-      ∙ first-dues (bare w .pending)
-
-  is-due : not (ltb (now .0) (headOf w)) ≡ true → first (map (λ e. e .due) (bare w .pending)) ≤ now .0
-  is-due d = subst (λ (n : ℕ). n ≤ now .0) head-bare (ltb-false (now .0) (headOf w) (not-true (ltb (now .0) (headOf w)) d))
-
-  pub one-ends : not (ltb (now .0) (headOf w)) ≡ false → w ≡ written (returned (now .0) (bare w))
-  one-ends d =
-      r .written
-      ∙ ap written (sym (returned-none (now .0) (bare w) in-time (queue sporadic alone)
-      (subst (λ (n : ℕ). now .0 < n) (ap headOf (r .written) ∙ head-written (bare w))
-      (ltb-true (now .0) (headOf w) (not-false (ltb (now .0) (headOf w)) d)))))
-
-  asks : (q : List Entry) → bare w .pending ≡ q → first (map (λ e. e .due) q) ≤ now .0
-      → (1 ≤ w .count) × (w .usable .0 + ticksAt w 0 < 4294967296)
-  unfolding shown written
-  asks [] e h = absurd (omega (arith, in-time))
-  asks (f ∷ q) e h = (
-    subst (λ (n : ℕ). 1 ≤ n) (sym counted) (omega arith),
-    subst (λ (n : ℕ). w .usable .0 + n < 4294967296)
-        (sym ticked) within,
-  )
-    where
-      counted : w .count ≡ suc (length q)
-      counted = ap (λ (x : Vcpu). x .count) (r .written) ∙ ap length e
-
-      ticked : ticksAt w 0 ≡ f .amount
-      ticked = ap (λ (x : Vcpu). ticksAt x 0) (r .written)
-          ∙ ap (λ (l : List Entry). (getD (laid 8 amountOf (amount 0) l) 0 (amount 0)) .0) e ∙ ticks-front f q
-
-      within : w .usable .0 + f .amount < 4294967296
-      within = omega (arith, rw e at (r .fits))
-
-  pub one-asks : not (ltb (now .0) (headOf w)) ≡ true → (1 ≤ w .count) × (w .usable .0 + ticksAt w 0 < 4294967296)
-  one-asks d = asks (bare w .pending) refl (is-due d)
-
--- after one turn of the loop: still returnable, with the same end, and a shorter queue
-pub record Again (w x : Vcpu) (now : Moment) : Type 0 where
-  pub returnable : Returnable x now
-  pub queue : hasQueue (x .kind) ≡ true
-  pub end : returned (now .0) (bare x) ≡ returned (now .0) (bare w)
-  pub less : x .count < w .count
-
-module _ (w : Vcpu) (now : Moment) (r : Returnable w now) (k : hasQueue (w .kind) ≡ true) (f : Entry) (q : List Entry)
-    (e : bare w .pending ≡ f ∷ q) (h : f .due ≤ now .0) where
-  whole : bare w ≡ queued (bare w) (bare w .usable) (f ∷ q)
-  whole = ap (queued (bare w) (bare w .usable)) e
-
-  short : length q ≤ 7
-  short = omega (arith, rw e at (r .few))
-
-  stepped : returnedOne w ≡ written (taken (bare w) f q)
-  stepped = ap returnedOne (r .written ∙ ap written whole) ∙ one (bare w) f q (alone w now r k) short
-
-  untagged : under 0 (taken (bare w) f q) ≡ taken (bare w) f q
-  unfolding shown
-  untagged = refl
-
-  bared : bare (returnedOne w) ≡ taken (bare w) f q
-  bared =
-      ap bare stepped
-      ∙ shown-written (tunnel 0) (taken (bare w) f q) (omega (arith, short), queue (sporadic w now r k) (alone w now r k))
-      ∙ untagged
-
-  counts : (returnedOne w) .count < w .count
-  unfolding written
-  counts =
-      let a : (returnedOne w) .count ≡ length q = ap (λ (x : Vcpu). x .count) stepped in
-      let b : w .count ≡ suc (length q) = ap (λ (x : Vcpu). x .count) (r .written) ∙ ap length e in
-      omega arith
-
-  kind-kept : hasQueue ((returnedOne w) .kind) ≡ true
-  unfolding returnedOne
-  kind-kept = k
-
-  period-kept : (returnedOne w) .period ≡ w .period
-  unfolding returnedOne
-  period-kept = refl
-
-  one-step : Again w (returnedOne w) now
-  one-step =
+  swept n h d e =
       record {
-        returnable =
-            record {
-              written = stepped ∙ ap written (sym bared);
-              few = subst (λ (v : Tenant). length (v .pending) ≤ 8) (sym bared) (omega (arith, short));
-              fits = subst (λ (v : Tenant). v .usable + sum (λ g. g .amount) (v .pending) < 4294967296) (sym bared)
-                  (omega (arith, rw e at (r .fits)));
-              no-queue = λ n. clash (sym kind-kept ∙ n);
-              period = rw period-kept (r .period);
-              time = rw period-kept (r .time);
-            };
-        queue = kind-kept;
-        end = ap (returned (now .0)) bared ∙ sym (returned-due (now .0) (bare w) f q h) ∙ ap (returned (now .0)) (sym whole);
-        less = counts;
+        asks = (
+          (subst (λ (c : ℕ). n ≤ c) (sym (ap (λ (x : Vcpu). x .count) laid-out)) (f .enough), h),
+          subst (λ (t : ℕ). w .usable .0 + t < 4294967296)
+              (sym (ap (λ (x : Vcpu). ticksIn n (x .amount)) laid-out ∙ ticks-laid 8 n q (f .enough) (r .few)))
+              (omega (
+                arith,
+                r .fits,
+                rw (take-all (length q) q (omega arith)) at (sum-longer (λ e. e .amount) q n (length q) (f .enough)),
+              )),
+        );
+        end = ends n f;
       }
+    where
+      dues : w .due ≡ laid 8 dueOf (moment never) q
+      dues = ap (λ (x : Vcpu). x .due) laid-out
 
-pub one-again : (w : Vcpu) (now : Moment) (r : Returnable w now) → hasQueue (w .kind) ≡ true → not (ltb (now .0) (headOf w)) ≡ true
-    → Again w (returnedOne w) now
-one-again w now r k d = go (bare w .pending) refl (is-due w now r k d)
-  where
-    go : (q : List Entry) → bare w .pending ≡ q → first (map (λ e. e .due) q) ≤ now .0 → Again w (returnedOne w) now
-    go [] e h = absurd (omega (arith, r .time))
-    go (f ∷ q) e h = one-step w now r k f q e h
+      f : Front (now .0) n q
+      f = front (now .0) 8 n q (omega (arith, r .time)) (r .few) h
+          (λ i j. subst (λ (ds : List Moment). (getD ds i (moment 0)) .0 ≤ now .0) dues (d i j))
+          (λ j. subst (λ (ds : List Moment). now .0 < (getD ds n (moment 0)) .0) dues (e j))

@@ -6,7 +6,7 @@ use mathlib.Core.Bool.{Bool, true, false, cond, _&&_}
 use mathlib.Core.List.{List, [], _∷_}
 use mathlib.Core.Option.{Option}
 use lib.Dec.{ltb, eqb}
-use lib.ListN.{length, getD, set}
+use lib.ListN.{length, take, getD, set}
 use Rattle.units.specs.Units.{moment, amount, tunnel, later}
 use Rattle.units.specs.declared.Moment.{Moment}
 use Rattle.units.specs.declared.Amount.{Amount}
@@ -126,25 +126,26 @@ pub record Chargeable (v : Vcpu) (last now : Moment) : Type 0 where
   pub enough : now .0 - last .0 ≤ v .usable .0
   pub fits : (k : ℕ) → ticksAt v k + v .usable .0 < 4294967296
 
--- an array of eight without its first, and `z` behind it (`o` is what a read past the end would give)
-abbrev pub nextOf : {A : Type 0} → A → A → List A → List A
-nextOf o z l =
-    getD l 1 o ∷ getD l 2 o ∷ getD l 3 o ∷ getD l 4 o ∷ getD l 5 o ∷ getD l 6 o ∷ getD l 7 o ∷ z ∷ []
+-- an array of eight with eight times `z` behind it, and eight slots of that from the slot `k` on (`o` is what a read past the end would
+-- give)
+abbrev pub wider : {A : Type 0} → A → A → List A → List A
+wider o z l =
+    getD l 0 o ∷ getD l 1 o ∷ getD l 2 o ∷ getD l 3 o ∷ getD l 4 o ∷ getD l 5 o ∷ getD l 6 o ∷ getD l 7 o
+    ∷ z ∷ z ∷ z ∷ z ∷ z ∷ z ∷ z ∷ z ∷ []
 
-unfoldable pub returnedOne : Vcpu → Vcpu
-returnedOne v =
-    record {
-      due = nextOf (moment 0) (moment never) (v .due);
-      ended = v .ended;
-      amount = nextOf (amount 0) (amount 0) (v .amount);
-      period = v .period;
-      capacity = v .capacity;
-      usable = amount (v .usable .0 + ticksAt v 0);
-      priority = v .priority;
-      runnable = v .runnable;
-      count = v .count - 1;
-      kind = v .kind;
-    }
+abbrev pub fromOf : {A : Type 0} → A → A → ℕ → List A → List A
+fromOf o z k l =
+    getD (wider o z l) k o ∷ getD (wider o z l) (k + 1) o ∷ getD (wider o z l) (k + 2) o ∷ getD (wider o z l) (k + 3) o
+    ∷ getD (wider o z l) (k + 4) o ∷ getD (wider o z l) (k + 5) o ∷ getD (wider o z l) (k + 6) o ∷ getD (wider o z l) (k + 7) o ∷ []
+
+-- the ticks of the first `k` slots
+abbrev pub ticksIn : ℕ → List Amount → ℕ
+ticksIn k l = sum (λ a. a .0) (take k l)
+
+unfoldable pub returnedFirst : ℕ → Vcpu → Vcpu
+returnedFirst k v =
+    tookOf (queueAs v (fromOf (moment 0) (moment never) k (v .due)) (fromOf (amount 0) (amount 0) k (v .amount)) (v .count - k))
+    (amount (v .usable .0 + ticksIn k (v .amount)))
 
 -- the next time that something comes
 abbrev pub headOf : Vcpu → ℕ

@@ -22,8 +22,8 @@ ghost use Rattle.turns.specs.Written.{never, written, noTenant, timerAt,
 ghost use Rattle.turns.specs.Calls.{described, timerSaid, paperBoundary};
 ghost use Rattle.turns.specs.Steps.{hasQueue, leftOf};
 ghost use Rattle.turns.specs.Steps.{elapsedOf, ticksAt, joinedOf, foldedOf, appendedOf, joinsOf, postedOf, spentOf, chargedOf};
-ghost use Rattle.turns.specs.Steps.{Chargeable, nextOf, returnedOne, headOf, latestOf, untilNext, refilledOf, boundaryIn, runnableAs, readyOf};
-ghost use Rattle.turns.specs.Steps.{waitsOf, pickedOf, timerFor, bare, Returnable};
+ghost use Rattle.turns.specs.Steps.{Chargeable, fromOf, ticksIn, returnedFirst, headOf, latestOf, untilNext, refilledOf};
+ghost use Rattle.turns.specs.Steps.{boundaryIn, runnableAs, readyOf, waitsOf, pickedOf, timerFor, bare, Returnable};
 
 // The kind of a VCPU on the card, from the byte asked for. An unknown one is refused before.
 fn kind_of(kind: u8) -> Kind
@@ -183,34 +183,109 @@ pub(crate) fn charged(v: Vcpu, last: Moment, now: Moment) -> Vcpu
     w
 }
 
-fn next_due(d: [Moment; 8]) -> [Moment; 8]
-    ensures { λ r. ⌜ r ≡ nextOf (moment 0) (moment never) d ⌝ }
+// The due times from the slot `k` on, in front, and `z` behind them. Read from a wider array, which costs nothing where the compiler knows
+// `k`; a loop over the slots keeps the record in memory (docs/DECISIONS.md, "One sweep").
+fn due_from(d: [Moment; 8], k: usize, z: Moment) -> [Moment; 8]
+    requires { ⌜ k ≤ mostPending ⌝ }
+    ensures { λ r. ⌜ r ≡ fromOf (moment 0) z k d ⌝ }
 {
-    [d[1], d[2], d[3], d[4], d[5], d[6], d[7], Moment::new(NEVER)]
+    let w = [
+        d[0],
+        d[1],
+        d[2],
+        d[3],
+        d[4],
+        d[5],
+        d[6],
+        d[7],
+        z,
+        z,
+        z,
+        z,
+        z,
+        z,
+        z,
+        z,
+    ];
+    [
+        w[k],
+        w[k + 1],
+        w[k + 2],
+        w[k + 3],
+        w[k + 4],
+        w[k + 5],
+        w[k + 6],
+        w[k + 7],
+    ]
 }
 
-fn next_amount(a: [Amount; 8]) -> [Amount; 8]
-    ensures { λ r. ⌜ r ≡ nextOf (amount 0) (amount 0) a ⌝ }
+fn amount_from(a: [Amount; 8], k: usize, z: Amount) -> [Amount; 8]
+    requires { ⌜ k ≤ mostPending ⌝ }
+    ensures { λ r. ⌜ r ≡ fromOf (amount 0) z k a ⌝ }
 {
-    [a[1], a[2], a[3], a[4], a[5], a[6], a[7], Amount::new(0)]
+    let w = [
+        a[0],
+        a[1],
+        a[2],
+        a[3],
+        a[4],
+        a[5],
+        a[6],
+        a[7],
+        z,
+        z,
+        z,
+        z,
+        z,
+        z,
+        z,
+        z,
+    ];
+    [
+        w[k],
+        w[k + 1],
+        w[k + 2],
+        w[k + 3],
+        w[k + 4],
+        w[k + 5],
+        w[k + 6],
+        w[k + 7],
+    ]
 }
 
-// The front entry becomes usable.
-fn returned_one(v: Vcpu) -> Vcpu
-    requires { ⌜ 1 ≤ v .count ⌝ }
-    requires { ⌜ v .usable .0 + ticksAt v 0 < 4294967296 ⌝ }
-    ensures { λ r. ⌜ r ≡ returnedOne v ⌝ }
+// The ticks of the first `k` slots.
+fn ticks_in(a: [Amount; 8], k: usize) -> Amount
+    requires { ⌜ k ≤ mostPending ⌝ }
+    requires { ⌜ ticksIn k a < 4294967296 ⌝ }
+    ensures { λ r. ⌜ r ≡ amount (ticksIn k a) ⌝ }
+{
+    let mut sum = Amount::new(0);
+    let mut i = 0;
+    while i < k {
+        let x = a[i];
+        sum = more(sum, x);
+        i += 1;
+    }
+    sum
+}
+
+// The first `k` entries become usable; the others keep their order.
+fn returned_first(v: Vcpu, k: usize) -> Vcpu
+    requires { ⌜ (k ≤ v .count) × (k ≤ mostPending) ⌝ }
+    requires { ⌜ v .usable .0 + ticksIn k (v .amount) < 4294967296 ⌝ }
+    ensures { λ r. ⌜ r ≡ returnedFirst k v ⌝ }
 {
     let d = v.due;
     let a = v.amount;
-    let due = next_due(d);
-    let amount = next_amount(a);
-    let usable = more(v.usable, a[0]);
+    let due = due_from(d, k, Moment::new(NEVER));
+    let amount = amount_from(a, k, Amount::new(0));
+    let ticks = ticks_in(a, k);
+    let usable = more(v.usable, ticks);
     let mut w = v;
     w.due = due;
     w.amount = amount;
     w.usable = usable;
-    w.count = v.count - 1;
+    w.count = v.count - k as u8;
     w
 }
 
@@ -227,17 +302,37 @@ pub(crate) fn due_by(v: Vcpu, now: Moment) -> bool
     !now.before(head(v))
 }
 
-// The entries that are due leave the front of the queue.
+// The entries that are due leave the front of the queue, all at once: the first is due, and the first behind it that is not tells how many
+// are. A test for each number and no loop, so that the shift is by a number that the compiler knows (docs/DECISIONS.md, "One sweep").
 fn brought_in(v: Vcpu, now: Moment) -> Vcpu
     requires { ⌜ Returnable v now ⌝ }
     requires { ⌜ hasQueue (v .kind) ≡ true ⌝ }
+    requires { ⌜ headOf v ≤ now .0 ⌝ }
     ensures { λ r. ⌜ r ≡ written (returnedRule (now .0) (bare v)) ⌝ }
 {
-    let mut w = v;
-    while due_by(w, now) {
-        w = returned_one(w);
+    let d = v.due;
+    if now.before(d[1]) {
+        return returned_first(v, 1);
     }
-    w
+    if now.before(d[2]) {
+        return returned_first(v, 2);
+    }
+    if now.before(d[3]) {
+        return returned_first(v, 3);
+    }
+    if now.before(d[4]) {
+        return returned_first(v, 4);
+    }
+    if now.before(d[5]) {
+        return returned_first(v, 5);
+    }
+    if now.before(d[6]) {
+        return returned_first(v, 6);
+    }
+    if now.before(d[7]) {
+        return returned_first(v, 7);
+    }
+    returned_first(v, 8)
 }
 
 // The ticks from `now` to the first of the moments `boundary`, `boundary` + `period`, .. after it: a call may pass any number of them.

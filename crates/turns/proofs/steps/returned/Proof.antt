@@ -10,7 +10,8 @@ has-queue-requires : tie.Need-has-queue-requires
 has-queue-requires c κs = search needs
 
 brought-in-requires : tie.Need-brought-in-requires
-brought-in-requires c κs = (c .before .before .pre .0, sym (c .before .has-queue .ensures) ∙ c .if1 .taken)
+brought-in-requires c κs =
+    (c .before .before .pre .0, (sym (c .before .has-queue .ensures) ∙ c .if1 .taken, c .before .before .pre .1))
 
 returns : tie.Need-returns
 returns c = c .brought-in .ensures
