@@ -8,7 +8,7 @@ import re
 
 SHAPE = re.compile(
     r"has no `?Need-|that can be named from here|has no field|expected type `tie\.Need-[^`]*`, but this has type `tie\.Need-"
-    r"|wrong number of arguments|takes \d+ arguments|is not in scope"
+    r"|wrong number of arguments|takes \d+ arguments|is not in scope|this pattern needs a function"
 )
 ERROR = re.compile(r"^\S*?/proofs/(\S+)\.antt:\d+:\d+: error: `([^`]+)`: (.*)", re.M)
 

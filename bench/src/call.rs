@@ -31,6 +31,8 @@ pub struct Report {
     pub run: Option<u32>,
     pub usable: u32,
     pub timer: Option<u64>,
+    /// The ticks that came back to all together.
+    pub brought: u32,
 }
 
 pub type Reply = Result<Report, Refusal>;

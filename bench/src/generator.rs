@@ -35,8 +35,8 @@ const NOBODY: u64 = 16777216;
 const GAP: u64 = 1000;
 
 /// What the generator remembers: the time of the last accepted call and the timer; the sums, of
-/// times and timers, of the identifiers that ran, of usable amounts, of refusals' numbers, of their
-/// details; and how many calls were refused.
+/// times and timers, of the identifiers that ran, of amounts, usable and brought, of refusals'
+/// numbers, of their details; and how many calls were refused.
 #[derive(Default)]
 pub struct Seen {
     last: u64,
@@ -215,7 +215,8 @@ impl Seen {
                 join(&mut self.times, self.last);
                 join(&mut self.times, self.timer);
                 join(&mut self.tunnels, report.run.map_or(NOBODY, u64::from));
-                join(&mut self.amounts, u64::from(report.usable));
+                let amounts = u64::from(report.usable) * 31 + u64::from(report.brought);
+                join(&mut self.amounts, amounts);
             }
             Err(refusal) => {
                 self.refused += 1;

@@ -4,8 +4,8 @@ use crate::call::{Refusal, Reply, Report};
 use std::io::{self, Write};
 
 const ROOM: usize = 65536;
-/// Two letters, four numbers of at most 20 digits, each behind a space, and a newline.
-const LONGEST_LINE: usize = 87;
+/// Two letters, five numbers of at most 20 digits, each behind a space, and a newline.
+const LONGEST_LINE: usize = 108;
 
 pub struct Lines<W: Write> {
     to: W,
@@ -59,6 +59,7 @@ fn put_report(report: &Report, out: &mut [u8]) -> usize {
     at += put_or_dash(report.run.map(u64::from), &mut out[at..]);
     at += put_number(u64::from(report.usable), &mut out[at..]);
     at += put_or_dash(report.timer, &mut out[at..]);
+    at += put_number(u64::from(report.brought), &mut out[at..]);
     at
 }
 

@@ -62,23 +62,30 @@ impl Vcpu {
         self.ended = now;
     }
 
-    fn give_back(&mut self, now: u64) {
+    /// The ticks that it brought.
+    fn give_back(&mut self, now: u64) -> u32 {
+        let mut brought = 0;
         while self.count > 0 && self.due[0] <= now {
             if self.kind != SPORADIC {
                 return self.refill(now);
             }
+            brought += self.amount[0];
             self.usable += self.amount[0];
             self.due.copy_within(1.., 0);
             self.amount.copy_within(1.., 0);
             self.count -= 1;
         }
+        brought
     }
 
-    fn refill(&mut self, now: u64) {
+    /// The ticks that it added.
+    fn refill(&mut self, now: u64) -> u32 {
         let period = u64::from(self.period);
+        let left = self.usable;
         self.due[0] += ((now - self.due[0]) / period + 1) * period;
         self.usable = self.amount[0];
         self.set_runnable(self.runnable);
+        self.usable - left
     }
 
     /// A polling one that is not runnable keeps no ticks.
@@ -303,8 +310,9 @@ impl Scheduler for Core {
         if let Some(running) = self.running {
             self.table[running].charge(self.last, now);
         }
+        let mut brought = 0;
         for vcpu in &mut self.table[..self.count] {
-            vcpu.give_back(now);
+            brought += vcpu.give_back(now);
         }
         self.forget(now);
         self.change(change, place, now);
@@ -322,6 +330,7 @@ impl Scheduler for Core {
             run,
             usable,
             timer,
+            brought,
         })
     }
 }

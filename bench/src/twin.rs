@@ -1,6 +1,7 @@
 //! The algorithm of the crate `turns`, in place: a table sorted by urgency, identifiers beside it,
 //! a time above all for none. The next boundary of one that has no queue stands at its front.
-//! Remembered identifiers and their times have arrays of their own.
+//! Remembered identifiers and their times have arrays of their own, and so have, within a call, the
+//! times that the return step reports.
 
 use crate::call::{refuse, Change, Description, Refusal, Reply, Report, Scheduler};
 use crate::call::{LARGEST_IDENTIFIER, LARGEST_PERIOD, LARGEST_TIME, MOST_PENDING, MOST_VCPUS};
@@ -8,6 +9,9 @@ use crate::call::{POLLING, SPORADIC};
 
 const NEVER: u64 = u64::MAX;
 const NOBODY: u32 = u32::MAX;
+
+/// The time reported of each, by its place.
+type Times = [u64; MOST_VCPUS];
 
 #[derive(Clone, Copy)]
 struct Vcpu {
@@ -57,7 +61,14 @@ impl Vcpu {
         self.ended = now;
     }
 
-    fn give_back(&mut self, now: u64) {
+    /// The ticks that came.
+    fn give_back(&mut self, now: u64) -> u32 {
+        let was = self.usable;
+        self.come(now);
+        self.usable - was
+    }
+
+    fn come(&mut self, now: u64) {
         if self.kind != SPORADIC {
             return self.refill(now);
         }
@@ -95,12 +106,12 @@ impl Vcpu {
         self.due[usize::from(self.count).max(1) - 1]
     }
 
-    /// Its own next boundary; the one that runs is not asked for its returns.
-    fn own(&self) -> u64 {
+    /// Its own next boundary, of the time reported; the one that runs is not asked for its returns.
+    fn own(&self, reported: u64) -> u64 {
         if self.kind == SPORADIC {
             NEVER
         } else {
-            self.due[0]
+            reported
         }
     }
 }
@@ -239,19 +250,21 @@ impl Core {
         self.g = kept;
     }
 
-    fn admit(&mut self, new: Description, now: u64) {
+    fn admit(&mut self, new: Description, now: u64, next: &mut Times) {
         let mine = (new.priority, new.id);
         let k = (0..self.n)
             .position(|k| mine < (self.places[k].priority, self.ids[k]))
             .unwrap_or(self.n);
         self.places.copy_within(k..MOST_VCPUS - 1, k + 1);
         self.ids.copy_within(k..MOST_VCPUS - 1, k + 1);
+        next.copy_within(k..MOST_VCPUS - 1, k + 1);
         self.places[k] = admitted(new, now);
         self.ids[k] = new.id;
+        next[k] = NEVER;
         self.n += 1;
     }
 
-    fn remove(&mut self, at: usize) {
+    fn remove(&mut self, at: usize, next: &mut Times) {
         let until = self.places[at].latest();
         if until != NEVER {
             self.gone[self.g] = self.ids[at];
@@ -260,28 +273,43 @@ impl Core {
         }
         self.places.copy_within(at + 1.., at);
         self.ids.copy_within(at + 1.., at);
+        next.copy_within(at + 1.., at);
         self.places[MOST_VCPUS - 1] = VACANT;
         self.ids[MOST_VCPUS - 1] = NOBODY;
+        next[MOST_VCPUS - 1] = NEVER;
         self.n -= 1;
     }
 
-    /// The first in the table that can run, and the earliest that comes to those before it or is its
-    /// own boundary.
-    fn choose(&self) -> (usize, u64) {
+    /// Who is due gets what is; the times reported, and the ticks brought.
+    fn bring(&mut self, now: u64) -> (Times, u32) {
+        let mut next = [NEVER; MOST_VCPUS];
+        let mut brought = 0;
+        for (j, v) in self.places[..self.n].iter_mut().enumerate() {
+            if v.due[0] <= now {
+                brought += v.give_back(now);
+            }
+            next[j] = v.due[0];
+        }
+        (next, brought)
+    }
+
+    /// The first in the table that can run, and the earliest reported of those before it or its own
+    /// boundary.
+    fn choose(&self, next: &Times) -> (usize, u64) {
         let mut soon = NEVER;
         for (j, v) in self.places[..self.n].iter().enumerate() {
             if v.runnable {
                 if v.usable > 0 {
-                    return (j, soon.min(v.own()));
+                    return (j, soon.min(v.own(next[j])));
                 }
-                soon = soon.min(v.due[0]);
+                soon = soon.min(next[j]);
             }
         }
         (MOST_VCPUS, soon)
     }
 
-    fn report(&mut self, now: u64) -> Report {
-        let (chosen, soon) = self.choose();
+    fn report(&mut self, now: u64, next: &Times, brought: u32) -> Report {
+        let (chosen, soon) = self.choose(next);
         let runs = chosen < MOST_VCPUS;
         let usable = if runs { self.places[chosen].usable } else { 0 };
         self.last = now;
@@ -296,6 +324,7 @@ impl Core {
             run: runs.then(|| self.ids[chosen]),
             usable,
             timer: (self.timer != NEVER).then_some(self.timer),
+            brought,
         }
     }
 }
@@ -306,19 +335,15 @@ impl Scheduler for Core {
         if self.running < self.n && now != self.last {
             self.places[self.running].charge(self.last, now);
         }
-        for v in &mut self.places[..self.n] {
-            if v.due[0] <= now {
-                v.give_back(now);
-            }
-        }
+        let (mut next, brought) = self.bring(now);
         self.forget(now);
         match change {
             Change::Tick => (),
-            Change::Admit(new) => self.admit(new, now),
+            Change::Admit(new) => self.admit(new, now, &mut next),
             Change::Wake(_) => self.places[at].set_runnable(true),
             Change::Block(_) => self.places[at].set_runnable(false),
-            Change::Remove(_) => self.remove(at),
+            Change::Remove(_) => self.remove(at, &mut next),
         }
-        Ok(self.report(now))
+        Ok(self.report(now, &next, brought))
     }
 }

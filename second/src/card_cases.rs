@@ -8,6 +8,7 @@ use crate::refusal::Refusal;
 use crate::return_cases;
 use crate::row_cases;
 use crate::stay_cases;
+use crate::total_cases;
 use crate::turns::{Call, Change, Charged, Core, Description, Reply, Vcpu};
 use crate::turns::{LARGEST_IDENTIFIER, LARGEST_PERIOD, LARGEST_TIME, MOST_PENDING, MOST_VCPUS};
 use std::collections::BTreeSet;
@@ -22,6 +23,7 @@ pub struct Notes {
     kinds: kind_cases::Notes,
     returns: return_cases::Notes,
     pub stays: stay_cases::Notes,
+    totals: total_cases::Notes,
 }
 
 /// What a case needs to know of the card before the call.
@@ -98,6 +100,7 @@ pub fn note(
             let held = before.running.as_ref().map(|vcpu| vcpu.description.identifier);
             kind_cases::note(&before.kinds, call, core, held, &mut notes.kinds, reached);
             return_cases::note(&before.returns, call, core, &mut notes.returns, reached);
+            total_cases::note(before.last, held, call, word(&call.change), core, &mut notes.totals, reached);
             let folded = identifier(&call.change).is_some_and(|named| notes.folded.contains(&named));
             stay_cases::note(&before.stays, call, core, held, folded, &mut notes.stays, reached);
             notes.folded.retain(|identifier| core.vcpus.contains_key(identifier));
@@ -255,6 +258,7 @@ pub fn asked() -> Vec<String> {
     all.extend(return_cases::asked());
     all.extend(row_cases::asked());
     all.extend(stay_cases::asked());
+    all.extend(total_cases::asked());
     all.extend(offsets::asked());
     for word in ["admit", "wake", "block", "remove", "tick"] {
         all.push(format!("{word} ok"));

@@ -148,6 +148,7 @@ pub fn run(plan: &Plan) -> Result<String, String> {
 #[cfg(test)]
 mod tests {
     use super::*;
+    use crate::{return_cases, total_cases};
 
     #[test]
     fn every_kind_of_difference_is_seen() {
@@ -159,6 +160,17 @@ mod tests {
         assert!(first_difference(&run, right.replacen('1', "2", 1).as_bytes()).is_some());
         let (_, without_first) = right.split_once('\n').unwrap();
         assert!(first_difference(&run, without_first.as_bytes()).is_some());
+    }
+
+    /// The scripts meet them, whatever the seed.
+    #[test]
+    fn the_smallest_comparison_meets_every_case_of_the_returns_and_the_totals() {
+        let asked = [return_cases::asked(), total_cases::asked()].concat();
+        for seed in 1..=5 {
+            let mut reached = Reached::default();
+            (0..300).for_each(|place| drop(run_at(seed, 20_000, place, &mut reached)));
+            assert_eq!(reached.missing(&asked), Vec::<String>::new(), "seed {seed}");
+        }
     }
 
     #[test]

@@ -11,6 +11,7 @@ use crate::records;
 use crate::returns;
 use crate::row_cases;
 use crate::script::{self, Scripts};
+use crate::totals;
 use crate::turns::{Call, Change, Core, Description, Vcpu};
 use crate::turns::{LARGEST_IDENTIFIER, LARGEST_PERIOD, LARGEST_TIME};
 
@@ -119,9 +120,9 @@ pub fn run(seed: u64, place: u64, length: u64, reached: &mut Reached) -> Run {
 
 /// The scripts that runs begin with, by tens of places as the kinds are: those of the returns have
 /// sporadic ones alone.
-const SCRIPTS: [Scripts; KINDS.len()] = [&leaving::SCRIPTS, &returns::SCRIPTS, &[], &[]];
+const SCRIPTS: [Scripts; KINDS.len()] = [&leaving::SCRIPTS, &returns::SCRIPTS, &totals::SCRIPTS, &[]];
 
-/// The scripts of a place and the number of its own, if it has one: half of the runs, in each mood
+/// The scripts of a place and the number of its own, if it has one: three of four runs, in each mood
 /// but that which leaps over nearly all of time. They are gone through one by one.
 fn script_at(place: u64) -> Option<(Scripts, u64)> {
     let moods = MOODS.len();
@@ -547,9 +548,27 @@ mod tests {
     use super::*;
 
     /// FNV-1a.
-    fn join(sum: &mut u64, bytes: &[u8]) {
-        for &byte in bytes {
-            *sum = (*sum ^ u64::from(byte)).wrapping_mul(0x0100_0000_01b3);
+    struct Sum {
+        sum: u64,
+        count: u64,
+    }
+
+    const BASIS: u64 = 0xcbf2_9ce4_8422_2325;
+
+    impl Sum {
+        fn join(&mut self, bytes: &[u8]) {
+            for &byte in bytes {
+                self.sum = (self.sum ^ u64::from(byte)).wrapping_mul(0x0100_0000_01b3);
+            }
+        }
+
+        /// The whole records of a run, each with its line, as these two write them.
+        fn take(&mut self, run: &Run, record: impl Fn(&[u8]) -> Vec<u8>, line: fn(&str) -> String) {
+            for (its, answer) in whole(run) {
+                self.join(&record(its));
+                self.join(line(answer).as_bytes());
+                self.count += 1;
+            }
         }
     }
 
@@ -562,30 +581,33 @@ mod tests {
         }
     }
 
-    /// A line as it was before request 2, which gave 5 where it gives 11 and 12.
-    fn without_split(line: &str) -> &str {
+    /// A line as it was before request 2, which gave 5 where it gives 11 and 12, and before
+    /// request 5, which had no total.
+    fn as_it_was(line: &str) -> String {
         match line {
-            "no 11 0\n" | "no 12 0\n" => "no 5 0\n",
-            _ => line,
+            "no 11 0\n" | "no 12 0\n" => "no 5 0\n".to_string(),
+            _ => without_total(line),
+        }
+    }
+
+    fn without_total(line: &str) -> String {
+        match line.rsplit_once(' ') {
+            Some((front, _)) if line.starts_with("ok ") => format!("{front}\n"),
+            _ => line.to_string(),
         }
     }
 
     /// The sum over the whole records and the lines of a thousand runs, and how many those
     /// are. The ending alone is no whole record.
     fn summed(kinds: impl Fn(u64) -> Kinds, written: impl Fn(&[u8]) -> Vec<u8>) -> (u64, u64) {
-        let (mut sum, mut count) = (0xcbf2_9ce4_8422_2325, 0);
+        let mut sum = Sum { sum: BASIS, count: 0 };
         for place in 0..1000 {
             let mut reached = Reached::default();
             let mut generator = Generator::new(kinds(place), 1, place, &mut reached);
             generator.forgets = true;
-            let run = generator.write(place, 400);
-            for (record, line) in whole(&run) {
-                join(&mut sum, &written(record));
-                join(&mut sum, without_split(line).as_bytes());
-                count += 1;
-            }
+            sum.take(&generator.write(place, 400), &written, as_it_was);
         }
-        (sum, count)
+        (sum.sum, sum.count)
     }
 
     /// Every run of document 01 gives, with the kind 0 and on a card that remembers nobody, the
@@ -602,6 +624,18 @@ mod tests {
     #[test]
     fn runs_of_request_1_give_the_lines_they_gave() {
         assert_eq!(summed(kinds_at, <[u8]>::to_vec), (0x98f7_a902_7335_27f2, 387_199));
+    }
+
+    /// The same of requests 3 and 4, of the runs that a comparison makes but for those that begin with
+    /// scripts of the totals: the sum is that of the second program before request 5 (commit
+    /// e643cc8).
+    #[test]
+    fn runs_of_requests_3_and_4_give_the_lines_they_gave_and_a_total() {
+        let mut sum = Sum { sum: BASIS, count: 0 };
+        for place in (0..1000).filter(|place| place / 10 % 4 != 2) {
+            sum.take(&run(1, place, 400, &mut Reached::default()), <[u8]>::to_vec, without_total);
+        }
+        assert_eq!((sum.sum, sum.count), (0xd334_85e7_e88f_7809, 352_512));
     }
 
     /// Each of them twice or more in the smallest comparison, and none left out.

@@ -14,7 +14,7 @@ pub fn line(answer: &Result<Reply, Refusal>) -> String {
     match answer {
         Ok(reply) => {
             let (run, timer) = (or_dash(reply.run.map(u64::from)), or_dash(reply.timer));
-            format!("ok {} {run} {} {timer}\n", reply.time, reply.usable)
+            format!("ok {} {run} {} {timer} {}\n", reply.time, reply.usable, reply.total)
         }
         Err(refusal) => format!("no {} {}\n", refusal.number, refusal.detail),
     }
@@ -109,14 +109,14 @@ mod tests {
     use crate::words;
 
     const WHOLE_CASE: [(&str, &str); 10] = [
-        ("admit 0 id 65793 T 10 C 3 pr 1", "ok 0 - 0 -"),
-        ("admit 0 id 257 T 8 C 8 pr 2", "ok 0 - 0 -"),
-        ("wake 0 id 65793", "ok 0 65793 3 3"),
-        ("wake 0 id 257", "ok 0 65793 3 3"),
-        ("tick 3", "ok 3 257 8 10"),
+        ("admit 0 id 65793 T 10 C 3 pr 1", "ok 0 - 0 - 0"),
+        ("admit 0 id 257 T 8 C 8 pr 2", "ok 0 - 0 - 0"),
+        ("wake 0 id 65793", "ok 0 65793 3 3 0"),
+        ("wake 0 id 257", "ok 0 65793 3 3 0"),
+        ("tick 3", "ok 3 257 8 10 0"),
         ("tick 11", "no 3 10"),
-        ("tick 10", "ok 10 65793 3 13"),
-        ("block 11 id 65793", "ok 11 257 8 19"),
+        ("tick 10", "ok 10 65793 3 13 3"),
+        ("block 11 id 65793", "ok 11 257 8 19 7"),
         ("remove 11 id 65537", "no 7 0"),
         ("bytes 05", "no 20 137"),
     ];
@@ -172,7 +172,7 @@ mod tests {
         for ticks in [0, 1, 23, 24, 5_957, 5_958, 20_000] {
             let before = TICK.repeat(ticks);
             for (record, number) in BAD {
-                let meant = "ok 0 - 0 -\n".repeat(ticks) + &format!("no {number} {}\n", 11 * ticks);
+                let meant = "ok 0 - 0 - 0\n".repeat(ticks) + &format!("no {number} {}\n", 11 * ticks);
                 let input = [&before[..], record].concat();
                 let told = |cut| {
                     let mut card = Card::new();
@@ -192,7 +192,7 @@ mod tests {
             for (record, number) in BAD {
                 let mut card = Card::after(Core::new(), offset);
                 let lines = card.take(&TICK) + &card.take(record) + &card.end();
-                assert_eq!(lines, format!("ok 0 - 0 -\nno {number} {told}\n"));
+                assert_eq!(lines, format!("ok 0 - 0 - 0\nno {number} {told}\n"));
             }
         }
     }
@@ -201,7 +201,7 @@ mod tests {
     fn a_bad_header_is_answered_at_once_and_stops() {
         for (header, answer) in [([6, 0, 13], "no 21 11\n"), ([5, 0, 7], "no 22 11\n")] {
             let mut card = Card::new();
-            assert_eq!(card.take(&TICK), "ok 0 - 0 -\n");
+            assert_eq!(card.take(&TICK), "ok 0 - 0 - 0\n");
             assert_eq!(card.take(&header[..2]), "");
             assert_eq!(card.take(&header[2..]), answer);
             assert_eq!(card.take(&TICK), "");

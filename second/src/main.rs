@@ -1,6 +1,7 @@
 //! The second program: an independent reading of the scope paper, and what compares
 //! the proved programs with it.
 
+mod brought;
 mod card_cases;
 mod compare_card;
 mod compare_sizing;
@@ -26,6 +27,8 @@ mod script;
 mod sizing;
 mod stay_cases;
 mod stays;
+mod total_cases;
+mod totals;
 mod turns;
 mod ways;
 mod words;
@@ -39,6 +42,8 @@ mod wrong_replies;
 mod wrong_returns;
 #[cfg(test)]
 mod wrong_sizings;
+#[cfg(test)]
+mod wrong_totals;
 
 use options::Options;
 use second::{options, pipe, random, refusal, shares};

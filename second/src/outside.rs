@@ -1,11 +1,12 @@
-//! `outside`: what all stays of an identifier may hold, that none waits with ticks and that no
-//! timer stands still, checked from the lines that the given program wrote and the records it
-//! was given, and from nothing else. Who runs from one time to the next stands in the lines;
-//! periods, capacities and kinds stand in the admits, and who is runnable follows from the wakes
-//! and blocks that were accepted. A refusal is checked as far as the records and the stays say
-//! what it is: where a bad record begins, what is wrong with an admit's terms, who is on the
-//! card, and who is remembered and up to when. The rows of the time are not looked into.
+//! `outside`: what all stays of an identifier may hold, that none waits with ticks, that no timer
+//! stands still and how many ticks come back, checked from the lines that the given program wrote
+//! and the records it was given, and from nothing else. Who runs from one time to the next stands
+//! in the lines; periods, capacities and kinds stand in the admits, and who is runnable follows
+//! from the wakes and blocks that were accepted. A refusal is checked as far as the records and the
+//! stays say what it is: where a bad record begins, what is wrong with an admit's terms, who is on
+//! the card, and who is remembered and up to when. The rows of the time are not looked into.
 
+use crate::brought::Late;
 use crate::generate::{self, Run};
 use crate::lines;
 use crate::pipe;
@@ -30,6 +31,7 @@ pub struct Told {
     pub run: Option<u32>,
     pub usable: u64,
     pub timer: Option<u64>,
+    pub total: u64,
 }
 
 pub fn read_line(line: &str) -> Result<Result<Told, Refusal>, String> {
@@ -40,11 +42,12 @@ pub fn read_line(line: &str) -> Result<Result<Told, Refusal>, String> {
             number: number.parse().map_err(|_| wrong())?,
             detail: detail.parse().map_err(|_| wrong())?,
         })),
-        ["ok", time, run, usable, timer] => Ok(Ok(Told {
+        ["ok", time, run, usable, timer, total] => Ok(Ok(Told {
             time: time.parse().map_err(|_| wrong())?,
             run: if run == "-" { None } else { Some(run.parse().map_err(|_| wrong())?) },
             usable: usable.parse().map_err(|_| wrong())?,
             timer: if timer == "-" { None } else { Some(timer.parse().map_err(|_| wrong())?) },
+            total: total.parse().map_err(|_| wrong())?,
         })),
         _ => Err(wrong()),
     }
@@ -61,6 +64,9 @@ struct View<'a> {
     until: BTreeMap<u32, u64>,
     on_core: Option<u32>,
     since: u64,
+    late: Late,
+    /// The first total that is not what the ticks held say.
+    wrong_total: Option<String>,
     counts: &'a mut Counts,
 }
 
@@ -147,12 +153,22 @@ impl View<'_> {
         if let Some(stay) = self.on_core.and_then(|identifier| self.stays.get_mut(&identifier)) {
             stay.hold(self.since, told.time, self.counts);
         }
+        self.check_total(told);
         self.stays.values_mut().for_each(|stay| stay.pass(self.since, told.time));
         self.change(change, told.time)?;
         (self.on_core, self.since) = (told.run, told.time);
         self.compare_usable(told)?;
         self.check_choice(told)?;
         self.check_timer(told)
+    }
+
+    /// Behind a wrong total the next ones are not looked at, but all else is: it has sentences of
+    /// its own.
+    fn check_total(&mut self, told: &Told) {
+        if self.wrong_total.is_none() {
+            let checked = self.late.check(&self.stays, self.since, told, self.counts);
+            self.wrong_total = checked.err();
+        }
     }
 
     fn change(&mut self, change: &Change, now: u64) -> Result<(), String> {
@@ -174,6 +190,7 @@ impl View<'_> {
     /// No earlier stay can ask for more time: the identifier came back when that was over.
     fn end(&mut self, identifier: u32, now: u64) {
         let Some(stay) = self.stays.remove(&identifier) else { return };
+        self.late.end(&stay, &self.stays, now);
         match stay.remembered_until(now) {
             Some(until) => self.until.insert(identifier, until),
             None => self.until.remove(&identifier),
@@ -238,8 +255,8 @@ impl View<'_> {
 }
 
 fn view(counts: &mut Counts) -> View<'_> {
-    let (stays, ended, until) = Default::default();
-    View { stays, ended, until, on_core: None, since: 0, counts }
+    let (stays, ended, until, late) = Default::default();
+    View { stays, ended, until, on_core: None, since: 0, late, wrong_total: None, counts }
 }
 
 pub fn check_run(run: &Run, output: &str, counts: &mut Counts) -> Result<(), String> {
@@ -248,12 +265,14 @@ pub fn check_run(run: &Run, output: &str, counts: &mut Counts) -> Result<(), Str
         return Err(format!("{} lines for {} records", lines.len(), run.records.len()));
     }
     let mut view = view(counts);
-    let mut offset = 0;
+    let (mut offset, mut wrong_total) = (0, Ok(()));
     for (place, (record, line)) in run.records.iter().zip(lines).enumerate() {
-        view.take(record, offset, line).map_err(|error| format!("record {}: {error}", place + 1))?;
+        let told = |error: &String| format!("record {}: {error}", place + 1);
+        view.take(record, offset, line).map_err(|error| told(&error))?;
         offset += record.len() as u64;
+        wrong_total = wrong_total.and(view.wrong_total.as_ref().map_or(Ok(()), |error| Err(told(error))));
     }
-    view.check_held()
+    view.check_held().and(wrong_total)
 }
 
 /// What was held alone, whatever was refused.
@@ -289,17 +308,19 @@ const NAMES: [&str; 3] = ["sporadic", "deferrable", "polling"];
 
 fn tell(counts: &Counts, runs: u64) -> Result<String, String> {
     for (name, kind) in NAMES.iter().zip(&counts.kinds) {
-        let OfKind { stays, windows, above, across, over, rounds, usable } = kind;
+        let OfKind { stays, windows, above, across, over, rounds, usable, brought } = kind;
         println!(
             "{name}: {stays} stays, {windows} windows, {above} with more than C, {across} with ticks of two \
-             stays, {over} over a stay of other terms, {rounds} rounds, {usable} usable ticks"
+             stays, {over} over a stay of other terms, {rounds} rounds, {usable} usable ticks, {brought} times \
+             ticks come back"
         );
     }
-    let Counts { choices, timers, stops, terms, ticks, folds, cuts, .. } = counts;
+    let Counts { choices, timers, stops, terms, ticks, folds, cuts, totals, late, .. } = counts;
     let Counts { remembered, back, in_time, full, .. } = counts;
     println!("{ticks} ticks held, {folds} stays with a fold, {cuts} cut slices");
     println!("{back} came back, {in_time} of them at their very time, {remembered} too early, {full} to a full card");
     println!("{choices} lines at which nobody waits with ticks, {timers} timers later than their line");
+    println!("{totals} totals of ticks that come back, {late} with ticks that a fold had made late");
     println!("{stops} bad records told by their offset, {terms} admits refused by their terms");
     let missing = missing(counts);
     if !missing.is_empty() {
@@ -309,7 +330,8 @@ fn tell(counts: &Counts, runs: u64) -> Result<String, String> {
     let (windows, rounds) = (all(|kind| kind.windows), all(|kind| kind.rounds));
     let usable = all(|kind| kind.usable);
     Ok(format!(
-        "outside: {runs} runs, {windows} windows and {rounds} rounds hold, {usable} usable ticks agree"
+        "outside: {runs} runs, {windows} windows and {rounds} rounds hold, {usable} usable ticks and {totals} \
+         totals agree"
     ))
 }
 
@@ -317,17 +339,19 @@ fn tell(counts: &Counts, runs: u64) -> Result<String, String> {
 /// C in a window; a polling one that runs late in a round may hold C again in the next, but one
 /// that comes back at its boundary has no ticks before the next one: no window has both stays.
 fn missing(counts: &Counts) -> Vec<String> {
-    let Counts { choices, timers, stops, terms, ticks, folds, cuts, .. } = *counts;
+    let Counts { choices, timers, stops, terms, ticks, folds, cuts, totals, late, .. } = *counts;
     let lines = [(choices, "choices"), (timers, "timers"), (stops, "bad records"), (terms, "bad terms")];
     let plain = [(ticks, "ticks"), (folds, "folds"), (cuts, "cuts")];
+    let plain = plain.into_iter().chain([(totals, "totals"), (late, "totals with late ticks")]);
     let Counts { remembered, back, in_time, full, .. } = *counts;
     let returns =
         [(back, "returns"), (in_time, "returns in time"), (remembered, "remembered"), (full, "full")];
     let all = lines.into_iter().chain(plain).chain(returns);
     let mut asked: Vec<(u64, String)> = all.map(|(count, what)| (count, what.to_string())).collect();
     for (name, kind) in NAMES.iter().zip(&counts.kinds) {
-        let OfKind { stays, windows, above, across, over, rounds, usable } = *kind;
+        let OfKind { stays, windows, above, across, over, rounds, usable, brought } = *kind;
         let mut of_kind = vec![(stays, "stays"), (windows, "windows"), (usable, "usable ticks")];
+        of_kind.push((brought, "ticks that come back"));
         if *name != "sporadic" {
             of_kind.extend([(above, "windows with more than C"), (rounds, "rounds")]);
         }
@@ -358,13 +382,48 @@ mod tests {
         assert_eq!(missing(&counts), [""; 0]);
     }
 
+    #[test]
+    fn a_line_has_its_numbers_and_no_more() {
+        let right = "ok 35 - 0 - 0";
+        assert!(read_line(right).is_ok_and(|line| line.is_ok_and(|told| told.total == 0)));
+        for wrong in ["ok 35 - 0 -", "ok 35 - 0 - -", "ok 35 - 0 - 0 0", "ok 35 - 0 - ", "no 7 0 0", "no 7"] {
+            assert!(read_line(wrong).is_err(), "{wrong}");
+        }
+    }
+
+    /// A total of one tick more, or of one less, is found out where it stands.
+    #[test]
+    fn another_total_is_seen_where_it_stands() {
+        let (mut seen, mut changed) = (0, 0);
+        for run in (0..200).map(|place| run_at(1, place)) {
+            for more in [1, -1] {
+                let told = |line: &String| read_line(line.trim_end()).is_ok_and(|told| told.is_ok());
+                let Some(place) = (run.lines.len() / 2..run.lines.len()).find(|&at| told(&run.lines[at]))
+                else {
+                    continue;
+                };
+                let (front, total) = run.lines[place].trim_end().rsplit_once(' ').unwrap();
+                let total = total.parse::<u64>().unwrap().checked_add_signed(more);
+                let Some(total) = total else { continue };
+                let mut lines = run.lines.clone();
+                lines[place] = format!("{front} {total}\n");
+                let fault = check_run(&run, &lines.concat(), &mut Counts::default()).err();
+                let here = format!("record {}: {total} ticks are told to come back", place + 1);
+                seen += usize::from(fault.is_some_and(|fault| fault.starts_with(&here)));
+                changed += 1;
+            }
+        }
+        assert!(changed > 200 && seen == changed, "{seen} of {changed}");
+    }
+
     fn all_met() -> Counts {
-        let kind = |_| OfKind { stays: 1, windows: 1, above: 1, across: 1, over: 1, rounds: 1, usable: 1 };
-        let (choices, timers, stops, terms) = (1, 1, 1, 1);
-        let (ticks, folds, cuts) = (1, 1, 1);
-        let (remembered, back, in_time, full) = (1, 1, 1, 1);
-        let kinds = NAMES.map(kind);
-        Counts { kinds, choices, timers, stops, terms, remembered, back, in_time, full, ticks, folds, cuts }
+        let (stays, windows, above, across, over) = (1, 1, 1, 1, 1);
+        let (rounds, usable, brought) = (1, 1, 1);
+        let kinds = NAMES.map(|_| OfKind { stays, windows, above, across, over, rounds, usable, brought });
+        let (choices, timers, totals, late) = (1, 1, 1, 1);
+        let (stops, terms, remembered, back, in_time, full) = (1, 1, 1, 1, 1, 1);
+        let lines = Counts { choices, timers, totals, late, stops, terms, ..Counts::default() };
+        Counts { kinds, remembered, back, in_time, full, ticks: 1, folds: 1, cuts: 1, ..lines }
     }
 
     #[test]
@@ -375,8 +434,11 @@ mod tests {
             counts.kinds[place] = OfKind::default();
             let lost = missing(&counts);
             assert!(lost.iter().all(|what| what.starts_with(name)), "{lost:?}");
-            assert_eq!(lost.len(), if *name == "deferrable" { 7 } else { 5 });
+            assert_eq!(lost.len(), if *name == "deferrable" { 8 } else { 6 });
             assert!(tell(&counts, 1).is_err());
+        }
+        for less in [Counts { totals: 0, ..all_met() }, Counts { late: 0, ..all_met() }] {
+            assert!(tell(&less, 1).is_err_and(|missing| missing.contains("totals")));
         }
     }
 

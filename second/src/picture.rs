@@ -1,6 +1,7 @@
 //! `picture`: a small run drawn as an SVG, from the lines that the given program wrote for
-//! it. Above, who held the core; below, each tenant's usable budget, counted from those
-//! ticks as `outside` counts them, with a dot wherever the program told it.
+//! it. Above, who held the core, with a mark wherever the program told that ticks came back;
+//! below, each tenant's usable budget, counted from those ticks as `outside` counts them, with a
+//! dot wherever the program told it.
 
 use crate::outside::{self, Told};
 use crate::pipe;
@@ -26,16 +27,18 @@ struct Tenant {
 }
 
 impl Tenant {
-    /// One tick, held or not; then what comes back at its end.
-    fn pass(&mut self, now: u64, holds: bool) {
+    /// One tick, held or not; then what comes back at its end, which is told.
+    fn pass(&mut self, now: u64, holds: bool) -> u64 {
         let spent = self.stay.usable(now) - u64::from(holds);
         if holds {
             self.stay.hold(now, now + 1, &mut Counts::default());
         }
+        let brought = self.stay.brought(now, now + 1);
         self.stay.pass(now, now + 1);
         self.budget.push((now + 1, spent));
         self.budget.push((now + 1, self.stay.usable(now + 1)));
         self.budget.dedup();
+        brought
     }
 }
 
@@ -44,6 +47,8 @@ impl Tenant {
 struct Seen {
     tenants: Vec<Tenant>,
     held: Vec<(u64, u64, Option<u32>)>,
+    /// When ticks came back, and how many.
+    brought: Vec<(u64, u64)>,
     on_core: Option<u32>,
     now: u64,
 }
@@ -53,20 +58,27 @@ impl Seen {
         self.tenants.iter_mut().find(|tenant| tenant.stay.identifier == identifier)
     }
 
-    /// The ticks up to `time`, one after the other, to whoever was on the core.
-    fn pass(&mut self, time: u64) {
+    /// The ticks up to `time`, one after the other, to whoever was on the core. How many come
+    /// back meanwhile is told.
+    fn pass(&mut self, time: u64) -> u64 {
+        let mut brought = 0;
         self.held.push((self.now, time, self.on_core));
         while self.now < time {
             let (now, on_core) = (self.now, self.on_core);
             for tenant in &mut self.tenants {
-                tenant.pass(now, on_core == Some(tenant.stay.identifier));
+                brought += tenant.pass(now, on_core == Some(tenant.stay.identifier));
             }
             self.now += 1;
         }
+        brought
     }
 
     fn accept(&mut self, change: &Change, told: &Told) -> Result<(), String> {
-        self.pass(told.time);
+        let brought = self.pass(told.time);
+        if brought != told.total {
+            return Err(format!("at {} {brought} ticks come back, told are {}", told.time, told.total));
+        }
+        self.brought.extend((brought > 0).then_some((told.time, brought)));
         self.change(change)?;
         self.on_core = told.run;
         let Some(identifier) = told.run else { return Ok(()) };
@@ -171,6 +183,19 @@ impl Drawing {
         }
     }
 
+    /// A mark under the core's row.
+    fn brought(&mut self, seen: &Seen) {
+        let (top, foot) = (TOP + CORE + 3, TOP + CORE + 11);
+        for &(moment, ticks) in &seen.brought {
+            let x = self.x(moment);
+            let (left, right, y) = (x - 4, x + 4, foot + 12);
+            self.add(format_args!("<polygon points=\"{x},{top} {left},{foot} {right},{foot}\"/>"));
+            self.add(format_args!(
+                "<text x=\"{x}\" y=\"{y}\" text-anchor=\"middle\" font-size=\"11\">{ticks}</text>"
+            ));
+        }
+    }
+
     fn axis(&mut self, y: u64) {
         for moment in (0..=self.end).filter(|moment| moment % 5 == 0) {
             let x = self.x(moment);
@@ -224,7 +249,7 @@ fn draw(seen: &Seen) -> String {
         LEFT,
         28,
         "start",
-        "Who held the core, tick by tick, from the lines that card wrote; grey is idle.",
+        "Who held the core, tick by tick, from the lines that card wrote; grey is idle. Marks: ticks come back.",
     );
     drawing.text(
         LEFT,
@@ -234,6 +259,7 @@ fn draw(seen: &Seen) -> String {
     );
     drawing.axis(base + 6);
     drawing.core(seen);
+    drawing.brought(seen);
     for (place, tenant) in seen.tenants.iter().enumerate() {
         drawing.budget(seen, tenant, TOP + CORE + (place as u64 + 1) * (BUDGET + GAP));
     }
@@ -255,28 +281,35 @@ mod tests {
 
     #[test]
     fn budgets_are_counted_from_the_lines() {
-        let seen = seen(WORDS, "ok 0 - 0 -\nok 0 1 3 3\nok 3 - 0 10\nok 10 1 3 13\n").unwrap();
+        let seen = seen(WORDS, "ok 0 - 0 - 0\nok 0 1 3 3 0\nok 3 - 0 10 0\nok 10 1 3 13 3\n").unwrap();
         assert_eq!(seen.held, [(0, 0, None), (0, 0, None), (0, 3, Some(1)), (3, 10, None)]);
         let budget: Vec<u64> = seen.tenants[0].budget.iter().map(|&(_, usable)| usable).collect();
         assert_eq!(budget, [3, 2, 1, 0, 0, 0, 0, 0, 0, 0, 0, 3]);
         assert_eq!(seen.tenants[0].told, [(0, 3), (10, 3)]);
+        assert_eq!(seen.brought, [(10, 3)]);
+        assert_eq!(draw(&seen).matches("<polygon").count(), 1);
         assert!(draw(&seen).ends_with("</svg>\n"));
     }
 
     #[test]
     fn a_polling_tenant_is_drawn_with_its_refills_and_losses() {
         let words = "admit 8 id 1 T 2 C 2 pr 1 kind 2\nwake 8 id 1\ntick 10\nblock 11 id 1\n";
-        let seen = seen(words, "ok 8 - 0 -\nok 8 - 0 10\nok 10 1 2 12\nok 11 - 0 -\n").unwrap();
+        let seen = seen(words, "ok 8 - 0 - 0\nok 8 - 0 10 0\nok 10 1 2 12 2\nok 11 - 0 - 0\n").unwrap();
         let budget = [(8, 0), (9, 0), (10, 0), (10, 2), (11, 1), (11, 0)];
-        assert_eq!(seen.tenants[0].budget, budget);
+        assert_eq!((&seen.tenants[0].budget[..], &seen.brought[..]), (&budget[..], &[(10, 2)][..]));
         assert!(draw(&seen).contains("2 each 2"));
     }
 
     #[test]
     fn what_is_no_such_run_is_refused() {
-        assert!(seen(WORDS, "ok 0 - 0 -\nok 0 1 3 3\nok 3 - 0 10\nok 10 1 2 12\n").is_err());
-        assert!(seen(WORDS, "ok 0 - 0 -\nok 0 1 3 3\nno 2 0\nok 10 1 3 13\n").is_err());
-        assert!(seen(WORDS, "ok 0 - 0 -\n").is_err());
+        let behind = |last: &str| seen(WORDS, &format!("ok 0 - 0 - 0\nok 0 1 3 3 0\n{last}\n"));
+        assert!(behind("ok 3 - 0 10 0\nok 10 1 3 13 3").is_ok());
+        assert!(behind("ok 3 - 0 10 0\nok 10 1 2 12 3").is_err());
+        assert!(behind("ok 3 - 0 10 0\nok 10 1 3 13 2").is_err());
+        assert!(behind("ok 3 - 0 10 1\nok 10 1 3 13 3").is_err());
+        assert!(behind("ok 3 - 0 10 0\nok 10 1 3 13").is_err());
+        assert!(behind("no 2 0\nok 10 1 3 13 3").is_err());
+        assert!(behind("ok 3 - 0 10 0").is_err());
         assert!(seen("remove 0 id 1\n", "no 7 0\n").is_err());
     }
 }

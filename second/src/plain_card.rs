@@ -24,7 +24,8 @@ impl<K> Tenant<K> {
 pub trait Kept: Sized {
     /// It held the core from `last` to `now`; its usable ticks are less already.
     fn charge(tenant: &mut Tenant<Self>, last: u64, now: u64);
-    fn bring_in(tenant: &mut Tenant<Self>, now: u64);
+    /// The ticks that it says to have brought.
+    fn bring_in(tenant: &mut Tenant<Self>, now: u64) -> u64;
     /// A call leaves it runnable or not; its admission too.
     fn leave(tenant: &mut Tenant<Self>, runnable: bool, now: u64);
     /// What the timer looks at, of one that runs or is more urgent.
@@ -64,7 +65,7 @@ impl<K: Kept, F: Fn(&Description, u64) -> K> Card<K, F> {
             tenant.usable = tenant.usable.saturating_sub(now - self.last);
             K::charge(tenant, self.last, now);
         }
-        self.tenants.values_mut().for_each(|tenant| K::bring_in(tenant, now));
+        let total: u64 = self.tenants.values_mut().map(|tenant| K::bring_in(tenant, now)).sum();
         self.change(change, now);
         let able = self.tenants.values().filter(|tenant| tenant.runnable && tenant.usable > 0);
         let chosen = able.min_by_key(|tenant| tenant.urgency());
@@ -72,7 +73,7 @@ impl<K: Kept, F: Fn(&Description, u64) -> K> Card<K, F> {
         let told = chosen
             .map_or("- 0".to_string(), |tenant| format!("{} {}", tenant.terms.identifier, tenant.usable));
         (self.running, self.last) = (chosen.map(|tenant| tenant.terms.identifier), now);
-        format!("ok {now} {told} {timer}\n")
+        format!("ok {now} {told} {timer} {total}\n")
     }
 
     /// Where the chosen one is used up, or ticks come to it or to a runnable more urgent one.

@@ -83,6 +83,9 @@ pub fn note(before: &Before, call: &Call, core: &Core, notes: &mut Notes, to: &m
         note_left(returning, notes, to);
         let folded = notes.folded.get(&identifier) == Some(&returning.last_due);
         to.add_if(due > 1 && folded, "several return, the last of them folded");
+        to.add_if(folded, "a folded entry returns");
+        let alone = core.reports.iter().filter(|report| report.brought > 0).count() == 1;
+        to.add_if(folded && !alone, "a folded entry returns, and another VCPU has ticks back too");
         if due > 1 {
             let held = before.held == Some(identifier);
             note_several(returning, call, core, held, to);
@@ -164,11 +167,13 @@ pub fn asked() -> Vec<String> {
     all
 }
 
-const PLAIN: [&str; 13] = [
+const PLAIN: [&str; 15] = [
     "a return to one not runnable",
     "returns to two",
     "several return to two, not as many to each",
     "several return, the last of them folded",
+    "a folded entry returns",
+    "a folded entry returns, and another VCPU has ticks back too",
     "several return to one that the call removes, none is left",
     "several return to one that the call removes, some are left",
     "several return to the running one, charged with a new entry",

@@ -49,7 +49,7 @@ impl Script {
     }
 
     /// One use for each that is named, none of which joins another.
-    fn uses(&mut self, whose: &[u32]) {
+    pub fn uses(&mut self, whose: &[u32]) {
         let amounts = self.amounts(whose.len());
         for (&identifier, amount) in whose.iter().zip(amounts) {
             let start = self.core.last + self.random.between(1, GAP);

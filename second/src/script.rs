@@ -31,6 +31,14 @@ impl Script {
         self.calls.push(call);
     }
 
+    /// Behind a tick at each timer that comes before it.
+    pub fn put_in_time(&mut self, time: u64, change: Change) {
+        while let Some(timer) = self.core.timer.filter(|&timer| timer < time) {
+            self.put(timer, Change::Tick);
+        }
+        self.put(time, change);
+    }
+
     pub fn put_now(&mut self, change: Change) {
         self.put(self.core.last, change);
     }

@@ -20,9 +20,9 @@ const RETURNED: &str = "a last return, which came just then";
 /// Of one that is admitted at the largest time with the largest period.
 const GREATEST: u64 = LARGEST_TIME + LARGEST_PERIOD as u64;
 
-const KINDS: [&str; 3] = ["sporadic", "deferrable", "polling"];
+pub const KINDS: [&str; 3] = ["sporadic", "deferrable", "polling"];
 
-fn kind_of(description: &Description) -> &'static str {
+pub fn kind_of(description: &Description) -> &'static str {
     KINDS[usize::from(description.kind)]
 }
 
@@ -264,7 +264,7 @@ fn note_removal(
 }
 
 /// Each case of each, which stands for `{}`.
-fn of_each(whose: &[&str], cases: &[&str]) -> Vec<String> {
+pub fn of_each(whose: &[&str], cases: &[&str]) -> Vec<String> {
     let of = |who: &str| cases.iter().map(|case| case.replace("{}", who)).collect::<Vec<_>>();
     whose.iter().flat_map(|who| of(who)).collect()
 }

@@ -1,6 +1,6 @@
 //! One stay as it is seen from outside: the ticks it held, what it may hold by its kind, alone
 //! and together with other stays of its identifier, how long it is remembered, and the usable
-//! ticks that follow from the ticks held.
+//! ticks and those that come back, which follow from the ticks held.
 
 use crate::turns::{Description, MOST_PENDING};
 
@@ -25,6 +25,10 @@ pub struct Counts {
     /// Lines at which no more urgent one could have run.
     pub choices: u64,
     pub timers: u64,
+    /// Totals that are not 0 and follow from the ticks held, and those of them with ticks that a
+    /// fold had made late.
+    pub totals: u64,
+    pub late: u64,
     /// Bad records, and admits whose terms are refused.
     pub stops: u64,
     pub terms: u64,
@@ -53,6 +57,8 @@ pub struct OfKind {
     pub rounds: u64,
     /// Lines that told usable ticks.
     pub usable: u64,
+    /// Lines at which ticks came back to it.
+    pub brought: u64,
 }
 
 #[derive(Clone, Copy, PartialEq)]
@@ -211,11 +217,39 @@ impl Stay {
         self.slices.iter().filter(move |slice| slice.start + self.period > moment)
     }
 
+    /// What a call at `now` brings it, the one before it at `since`: the ticks of the slices
+    /// whose period ends meanwhile, or all that is spent if a boundary is passed. It holds its
+    /// ticks up to `now` already, and what the call leaves it is not yet seen.
+    pub fn brought(&self, since: u64, now: u64) -> u64 {
+        let passes = self.round(since) < self.round(now);
+        match self.kind {
+            Kind::Sporadic => {
+                let due = self.pending(since).filter(|slice| slice.start + self.period <= now);
+                due.map(|slice| slice.end - slice.start).sum()
+            }
+            Kind::Polling { .. } if !self.runnable => 0,
+            _ if passes => self.spent(self.round(since)).min(self.capacity),
+            _ => 0,
+        }
+    }
+
+    /// Of a round's ticks, where there are rounds.
+    fn spent(&self, round: u64) -> u64 {
+        match self.kind {
+            Kind::Polling { served: false } => self.capacity,
+            _ => self.held(self.start_of(round), self.start_of(round + 1)),
+        }
+    }
+
+    /// Whether all ticks that it held have come back, folded or not.
+    pub fn has_all_back(&self, moment: u64) -> bool {
+        self.pending(moment).next().is_none()
+    }
+
     pub fn usable(&self, moment: u64) -> u64 {
         let spent = match self.kind {
             Kind::Sporadic => self.pending(moment).map(|slice| slice.end - slice.start).sum(),
-            Kind::Polling { served: false } => self.capacity,
-            _ => self.held(self.start_of(self.round(moment)), moment),
+            _ => self.spent(self.round(moment)),
         };
         self.capacity.saturating_sub(spent)
     }

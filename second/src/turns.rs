@@ -1,8 +1,8 @@
-//! Turns: the section "What a call does" of the scope paper with requests 1 to 3, read plainly. A
+//! Turns: the section "What a call does" of the scope paper with requests 1 to 5, read plainly. A
 //! VCPU keeps what it used and since when it is runnable; what is pending or usable at a
 //! moment is counted from that, so that the step "Return", refills included, is the passing
-//! of time and needs no code. What is remembered of a removed one is a time, and whether that
-//! has come is counted in the same way.
+//! of time: what it brought is what is usable more at its end than at its start. What is
+//! remembered of a removed one is a time, and whether that has come is counted in the same way.
 
 use crate::refusal::{refuse, refuse_with, Refusal};
 use std::collections::BTreeMap;
@@ -44,6 +44,8 @@ pub struct Reply {
     pub run: Option<u32>,
     pub usable: u64,
     pub timer: Option<u64>,
+    /// All ticks that step 2 brought.
+    pub total: u64,
 }
 
 /// What step 1 did.
@@ -56,6 +58,21 @@ pub enum Charged {
     Fold,
     /// Ticks of one that has no queue.
     Taken,
+}
+
+/// What step 2 did for one VCPU, and what that is told from.
+#[derive(Clone, Copy, PartialEq, Eq, Debug)]
+pub struct Report {
+    pub description: Description,
+    /// Before the call.
+    pub runnable: bool,
+    /// The usable ticks that step 1 left it.
+    pub left: u64,
+    pub brought: u64,
+    /// How many entries have returned, or how many boundaries were passed.
+    pub due: u64,
+    /// The earliest time still pending, or the next boundary.
+    pub next: Option<u64>,
 }
 
 /// Ticks that were used, and when they come back.
@@ -224,6 +241,21 @@ impl Vcpu {
         self.next_boundary(moment).or_else(|| self.earliest_return(moment))
     }
 
+    /// Step 2 of a call at `now` for one that was charged up to then, the last call being at
+    /// `last`. All that the charge has posted is pending at `last`.
+    fn report(&self, last: u64, now: u64) -> Report {
+        let left = self.usable(last);
+        let returned = self.pending_count(last) - self.pending_count(now);
+        Report {
+            description: self.description,
+            runnable: self.runnable(),
+            left,
+            brought: self.usable(now) - left,
+            due: returned as u64 + self.boundaries_passed(last, now),
+            next: self.comes_next(now),
+        }
+    }
+
     /// The same VCPU, the entries that have returned at a moment left out.
     pub fn without_history(&self, moment: u64) -> Vcpu {
         let kept = match self.kept {
@@ -294,7 +326,9 @@ pub struct Core {
     pub vcpus: BTreeMap<u32, Vcpu>,
     /// The identifiers that were removed, each with its time.
     pub remembered: BTreeMap<u32, u64>,
+    /// What steps 1 and 2 of the last accepted call did.
     pub charged: Charged,
+    pub reports: Vec<Report>,
 }
 
 impl Core {
@@ -307,6 +341,7 @@ impl Core {
             vcpus: BTreeMap::new(),
             remembered: BTreeMap::new(),
             charged: Charged::Nobody,
+            reports: Vec::new(),
         }
     }
 
@@ -314,6 +349,8 @@ impl Core {
         self.validate_time(call.time)?;
         self.validate_change(call)?;
         self.charge(call.time);
+        let report = |vcpu: &Vcpu| vcpu.report(self.last, call.time);
+        self.reports = self.vcpus.values().map(report).collect();
         self.last = call.time;
         self.remembered.retain(|_, until| call.time < *until);
         self.change(&call.change);
@@ -443,13 +480,13 @@ impl Core {
         Some(holder)
     }
 
-    /// The earliest pending return or next boundary of a runnable VCPU more urgent than the
-    /// chosen one; in idle, of any runnable VCPU.
+    /// The earliest reported time of a runnable VCPU more urgent than the chosen one; in idle, of
+    /// any runnable VCPU. One that the call admitted has no report, and is not runnable.
     pub fn awaited(&self) -> Option<u64> {
         let chosen = self.chosen();
-        let counts =
-            |vcpu: &&Vcpu| vcpu.runnable() && chosen.is_none_or(|other| vcpu.more_urgent_than(other));
-        self.vcpus.values().filter(counts).filter_map(|vcpu| vcpu.comes_next(self.last)).min()
+        let counts = |vcpu: &Vcpu| vcpu.runnable() && chosen.is_none_or(|other| vcpu.more_urgent_than(other));
+        let stands = |report: &&Report| self.vcpus.get(&report.description.identifier).is_some_and(counts);
+        self.reports.iter().filter(stands).filter_map(|report| report.next).min()
     }
 
     fn next_timer(&self) -> Option<u64> {
@@ -460,7 +497,8 @@ impl Core {
 
     fn reply(&self) -> Reply {
         let usable = self.chosen().map_or(0, |vcpu| vcpu.usable(self.last));
-        Reply { time: self.last, run: self.running, usable, timer: self.timer }
+        let total = self.reports.iter().map(|report| report.brought).sum();
+        Reply { time: self.last, run: self.running, usable, timer: self.timer, total }
     }
 }
 
@@ -879,6 +917,68 @@ mod tests {
             assert_eq!(woken, if kind == 1 { (Some(1), 1, own) } else { (None, 0, own) });
             assert_eq!(ran(&mut core, tick(LARGEST_TIME)), (Some(1), 1, Some(LARGEST_TIME + 1)));
         }
+    }
+
+    /// What each call brings.
+    fn totals(calls: &[Call]) -> Vec<u64> {
+        let mut core = Core::new();
+        calls
+            .iter()
+            .map(|call| core.call(call).unwrap_or_else(|no| panic!("{call:?}: {no:?}")).total)
+            .collect()
+    }
+
+    /// Slices at 0 and 3; at 13 both have come back.
+    #[test]
+    fn a_total_is_what_has_fallen_due() {
+        let start = [admit(0, 1, 10, 4, 0), wake(0, 1), block(1, 1), wake(3, 1), block(5, 1)];
+        let behind = |more: &[Call]| totals(&[&start[..], more].concat())[start.len()..].to_vec();
+        assert_eq!(totals(&start), [0; 5]);
+        assert_eq!(behind(&[tick(9), tick(10), tick(12), tick(13), tick(13)]), [0, 1, 0, 2, 0]);
+        assert_eq!(behind(&[tick(13)]), [3]);
+        assert_eq!(behind(&[remove(10, 1), tick(13)]), [1, 0]);
+        assert_eq!(behind(&[admit(11, 2, 10, 4, 0), wake(13, 1)]), [1, 2]);
+    }
+
+    /// What the call itself charges is due at once where C is T.
+    #[test]
+    fn a_whole_period_comes_back_at_its_end() {
+        let start = [admit(0, 1, 5, 5, 0), wake(0, 1)];
+        let behind = |more: &[Call]| totals(&[&start[..], more].concat())[start.len()..].to_vec();
+        assert_eq!(behind(&[tick(5), tick(10)]), [5, 5]);
+        assert_eq!(behind(&[tick(2), tick(5), block(8, 1), tick(10)]), [0, 5, 0, 3]);
+    }
+
+    #[test]
+    fn a_folded_entry_comes_back_whole() {
+        let slices = (0..9).flat_map(|slice| [wake(2 * slice, 7), block(2 * slice + 1, 7)]);
+        let calls: Vec<Call> = [admit(0, 7, 1000, 100, 1)].into_iter().chain(slices).collect();
+        let behind = |more: &[Call]| totals(&[&calls[..], more].concat())[calls.len()..].to_vec();
+        assert_eq!(behind(&[tick(1014), tick(1015), tick(1016)]), [7, 0, 2]);
+        assert_eq!(behind(&[remove(1016, 7)]), [9]);
+    }
+
+    /// Admitted at 2 with T 10 and C 4: boundaries at 12, 22, 32.
+    #[test]
+    fn a_refill_brings_what_it_adds() {
+        let of = |kind, more: &[Call]| {
+            totals(&[&[of_kind(kind, admit_terms(1, 10, 4, 5), 2)], more].concat())[1..].to_vec()
+        };
+        assert_eq!(of(1, &[tick(12), wake(13, 1), block(14, 1), tick(21), tick(22)]), [0, 0, 0, 0, 1]);
+        assert_eq!(of(1, &[wake(3, 1), block(7, 1), tick(90)]), [0, 0, 4]);
+        assert_eq!(of(1, &[wake(10, 1), remove(12, 1)]), [0, 2]);
+        assert_eq!(of(2, &[tick(12), wake(13, 1), tick(22), block(25, 1)]), [0, 0, 4, 0]);
+        assert_eq!(of(2, &[wake(3, 1), block(12, 1), tick(22)]), [0, 4, 0]);
+        assert_eq!(of(2, &[wake(3, 1), remove(12, 1)]), [0, 4]);
+        assert_eq!(of(2, &[wake(3, 1), block(11, 1), wake(12, 1), tick(22)]), [0, 0, 0, 4]);
+    }
+
+    #[test]
+    fn the_largest_total_is_that_of_32_polling_ones() {
+        let largest = |identifier| of_kind(2, admit_terms(identifier, 1_000_000, 1_000_000, 0), 0);
+        let calls = (0..32).map(largest).chain((0..32).map(|identifier| wake(0, identifier)));
+        let calls: Vec<Call> = calls.chain([tick(1_000_000)]).collect();
+        assert_eq!(totals(&calls)[63..], [0, 32_000_000]);
     }
 
     /// 10 stands behind 4, 5, 11 and 12 and before 6 and 8.

@@ -1,6 +1,7 @@
 //! Cards with one fault each, to see that `outside` finds it. A card here has deferrable and
 //! polling tenants alone.
 
+use crate::brought;
 use crate::generate::Run;
 use crate::outside::{self, check_run};
 use crate::plain_card::{self, Kept, Tenant};
@@ -38,12 +39,13 @@ struct Rounds {
 impl Kept for Rounds {
     fn charge(_: &mut Tenant<Rounds>, _: u64, _: u64) {}
 
-    fn bring_in(tenant: &mut Tenant<Rounds>, now: u64) {
+    fn bring_in(tenant: &mut Tenant<Rounds>, now: u64) -> u64 {
         let (period, capacity) = (u64::from(tenant.terms.period), u64::from(tenant.terms.capacity));
         let Rounds { fault, boundary, .. } = tenant.kept;
         if now < boundary {
-            return;
+            return 0;
         }
+        let left = tenant.usable;
         let served = !polls(tenant) || tenant.runnable || fault == Fault::RefillsTheBlocked;
         tenant.usable = match fault {
             Fault::NeverRefills => tenant.usable,
@@ -54,6 +56,7 @@ impl Kept for Rounds {
         if fault != Fault::ForgetsTheBoundary {
             tenant.kept.boundary += ((now - boundary) / period + 1) * period;
         }
+        tenant.usable.saturating_sub(left)
     }
 
     fn leave(tenant: &mut Tenant<Rounds>, runnable: bool, now: u64) {
@@ -108,12 +111,14 @@ fn a_right_card_passes() {
     }
 }
 
-/// A timer that stands still is seen by its own sentence alone, the other faults by others.
+/// A timer that stands still is seen by its own sentence alone, the other faults by others. What is
+/// told of the ticks that come back is not looked at.
 #[test]
 fn every_fault_is_seen() {
     for fault in FAULTS {
         let findings = findings(fault);
-        let found: Vec<String> = findings.iter().filter_map(|finding| finding.clone().err()).collect();
+        let all = findings.iter().filter_map(|finding| finding.clone().err());
+        let found: Vec<String> = all.filter(|finding| !brought::is_of_a_total(finding)).collect();
         assert!(3 * found.len() > findings.len(), "{fault:?}: {} of {}", found.len(), findings.len());
         let still = |finding: &String| finding.contains("is not later than its line");
         assert!(

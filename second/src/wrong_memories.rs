@@ -2,6 +2,7 @@
 //! that `outside` does. A card here is the second program's, which is made to forget all, and a
 //! memory of its own beside it.
 
+use crate::brought;
 use crate::compare_card::{self, first_difference};
 use crate::generate::Run;
 use crate::lines::line;
@@ -218,11 +219,11 @@ fn output(run: &Run, fault: Fault) -> String {
 }
 
 /// The runs of a small comparison.
-fn compared() -> Vec<Run> {
+pub fn compared() -> Vec<Run> {
     (0..300).map(|place| compare_card::run_at(1, 20_000, place, &mut Reached::default())).collect()
 }
 
-fn from_outside() -> Vec<Run> {
+pub fn from_outside() -> Vec<Run> {
     (0..300).map(|place| outside::run_at(1, place)).collect()
 }
 
@@ -235,14 +236,31 @@ pub fn differs(run: &Run, output: &str) -> bool {
     first_difference(run, output.as_bytes()).is_some()
 }
 
+/// By another sentence than that of the totals.
 pub fn fails_outside(run: &Run, output: &str) -> bool {
-    outside::check_run(run, output, &mut Counts::default()).is_err()
+    let found = outside::check_run(run, output, &mut Counts::default());
+    found.is_err_and(|fault| !brought::is_of_a_total(&fault))
+}
+
+pub fn has_a_wrong_total(run: &Run, output: &str) -> bool {
+    let found = outside::check_run(run, output, &mut Counts::default());
+    found.is_err_and(|fault| brought::is_of_a_total(&fault))
+}
+
+/// The place of the first run in which a check sees what is written for it.
+pub fn first_seen(
+    runs: &[Run],
+    output: impl Fn(&Run) -> String,
+    sees: impl Fn(&Run, &str) -> bool,
+) -> Option<usize> {
+    runs.iter().position(|run| sees(run, &output(run)))
 }
 
 #[test]
 fn a_right_memory_passes() {
     assert_eq!(seen(&compared(), Fault::None, differs), 0);
-    assert_eq!(seen(&from_outside(), Fault::None, fails_outside), 0);
+    let right = |run: &Run| outside::check_run(run, &output(run, Fault::None), &mut Counts::default());
+    assert!(from_outside().iter().all(|run| right(run).is_ok()));
 }
 
 #[test]

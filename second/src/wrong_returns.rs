@@ -1,5 +1,6 @@
-//! Cards whose step 2 has one fault each, to see that the comparison finds it and that `outside`
-//! does. A card here has sporadic tenants alone, each with the arrays of the paper.
+//! Cards whose step 2 has one fault each, in what it brings or in what it says of that, to see that
+//! the comparison finds it and that `outside` does. A card here has sporadic tenants alone, each
+//! with the arrays of the paper.
 
 use crate::compare_card;
 use crate::generate::{self, Run};
@@ -8,7 +9,7 @@ use crate::plain_card::{self, Kept, Tenant};
 use crate::reached::Reached;
 use crate::return_cases;
 use crate::turns::MOST_PENDING;
-use crate::wrong_memories::{differs, fails_outside};
+use crate::wrong_memories::{differs, fails_outside, first_seen, has_a_wrong_total};
 
 #[derive(Clone, Copy, PartialEq, Debug)]
 enum Fault {
@@ -24,6 +25,10 @@ enum Fault {
     Cut(u32),
     /// Where several return, the use that went on is forgotten.
     ForgetsTheUse,
+    /// All that is due returns, and the first of it is told alone, or the last, or all but the last.
+    TellsTheFirst,
+    TellsTheLast,
+    TellsNotTheLast,
     /// Where so many of so many are due.
     Where(usize, usize, Wrong),
 }
@@ -66,6 +71,7 @@ const WRONGS: [(Wrong, usize); 9] = [
 
 fn faults() -> Vec<Fault> {
     let mut all = vec![Fault::StaysAtItsTime, Fault::ATickEarly, Fault::RunnableAlone, Fault::ForgetsTheUse];
+    all.extend([Fault::TellsTheFirst, Fault::TellsTheLast, Fault::TellsNotTheLast]);
     all.extend([8, 12, 16].map(Fault::Cut));
     all.extend((1..MOST_PENDING).map(Fault::AtMost));
     let stands = |place| [(Wrong::TimeStands(place), place + 1), (Wrong::AmountStands(place), place + 1)];
@@ -98,6 +104,18 @@ impl Queue {
         let (early, late) =
             (u64::from(fault == Fault::ATickEarly), u64::from(fault == Fault::StaysAtItsTime));
         self.times[..self.count].iter().take_while(|&&time| time + late <= now + early).count()
+    }
+
+    /// What is said to be brought, before it is.
+    fn told(&self, now: u64, fault: Fault) -> Option<u64> {
+        let due = &self.amounts[..self.due(now, fault)];
+        let last = due.last()?;
+        match fault {
+            Fault::TellsTheFirst => Some(due[0]),
+            Fault::TellsTheLast => Some(*last),
+            Fault::TellsNotTheLast => Some(due.iter().sum::<u64>() - last),
+            _ => None,
+        }
     }
 
     /// The ticks that all entries that are due bring, which leave it at once.
@@ -166,14 +184,18 @@ impl Kept for Returns {
         }
     }
 
-    fn bring_in(tenant: &mut Tenant<Returns>, now: u64) {
+    fn bring_in(tenant: &mut Tenant<Returns>, now: u64) -> u64 {
         let Returns { fault, queue, use_ended } = &mut tenant.kept;
         if *fault == Fault::ForgetsTheUse && queue.due(now, *fault) > 1 {
             *use_ended = None;
         }
-        if *fault != Fault::RunnableAlone || tenant.runnable {
-            tenant.usable += queue.sweep(now, *fault);
+        if *fault == Fault::RunnableAlone && !tenant.runnable {
+            return 0;
         }
+        let told = queue.told(now, *fault);
+        let brought = queue.sweep(now, *fault);
+        tenant.usable += brought;
+        told.unwrap_or(brought)
     }
 
     fn leave(_: &mut Tenant<Returns>, _: bool, _: u64) {}
@@ -189,50 +211,42 @@ fn output(run: &Run, fault: Fault) -> String {
     plain_card::output(run, |_, _| Returns { fault, use_ended: None, queue: Queue::default() })
 }
 
-/// The runs of a comparison, by their places, in which all are sporadic.
-fn all_sporadic(run_at: impl Fn(u64) -> Run) -> Vec<(u64, Run)> {
-    let places = (0..300).filter(|&place| generate::is_sporadic(place));
-    places.map(|place| (place, run_at(place))).collect()
+/// The runs in which all are sporadic.
+fn all_sporadic(run_at: impl Fn(u64) -> Run) -> Vec<Run> {
+    (0..300).filter(|&place| generate::is_sporadic(place)).map(run_at).collect()
 }
 
-fn compared() -> Vec<(u64, Run)> {
+fn compared() -> Vec<Run> {
     all_sporadic(|place| compare_card::run_at(1, 20_000, place, &mut Reached::default()))
 }
 
-fn from_outside() -> Vec<(u64, Run)> {
+fn from_outside() -> Vec<Run> {
     all_sporadic(|place| outside::run_at(1, place))
-}
-
-/// The place of the first run in which a check sees the fault.
-fn first_seen(runs: &[(u64, Run)], fault: Fault, sees: fn(&Run, &str) -> bool) -> Option<u64> {
-    runs.iter().find(|(_, run)| sees(run, &output(run, fault))).map(|&(place, _)| place)
 }
 
 #[test]
 fn a_right_return_passes() {
-    assert_eq!(first_seen(&compared(), Fault::None, differs), None);
-    assert_eq!(first_seen(&from_outside(), Fault::None, fails_outside), None);
+    let right = |run: &Run| output(run, Fault::None);
+    assert_eq!(first_seen(&compared(), right, differs), None);
+    for sees in [fails_outside, has_a_wrong_total] {
+        assert_eq!(first_seen(&from_outside(), right, sees), None);
+    }
 }
 
-/// In the first runs of sporadic ones alone, 10 to 19 and 50 to 59, which begin with every script of
-/// the returns, some twice. `outside` counts the usable ticks from the ticks held, where nothing has folded,
-/// and the scripts have them told at each return: so it sees what the comparison does.
+/// In the first twenty runs of sporadic ones alone, which begin with every script of the returns, some
+/// twice. `outside` counts the usable ticks from the ticks held, where nothing has folded, and the
+/// scripts have them told at each return: so it sees what the comparison does. What is wrong in the
+/// telling alone it sees by the totals.
 #[test]
 fn every_fault_is_seen() {
     let (compared, from_outside) = (compared(), from_outside());
     for fault in faults() {
-        let places = [first_seen(&compared, fault, differs), first_seen(&from_outside, fault, fails_outside)];
-        let soon = |place: &Option<u64>| place.is_some_and(|place| place < 60);
-        assert!(places.iter().all(soon), "{fault:?}: {places:?}");
-    }
-}
-
-/// The scripts meet them, whatever the seed.
-#[test]
-fn the_smallest_comparison_meets_every_case_of_the_returns() {
-    for seed in 1..=5 {
-        let mut reached = Reached::default();
-        (0..300).for_each(|place| drop(compare_card::run_at(seed, 20_000, place, &mut reached)));
-        assert_eq!(reached.missing(&return_cases::asked()), Vec::<String>::new(), "seed {seed}");
+        let wrong = |run: &Run| output(run, fault);
+        let sees = match fault {
+            Fault::TellsTheFirst | Fault::TellsTheLast | Fault::TellsNotTheLast => has_a_wrong_total,
+            _ => fails_outside,
+        };
+        let places = [first_seen(&compared, wrong, differs), first_seen(&from_outside, wrong, sees)];
+        assert!(places.iter().all(|place| place.is_some_and(|place| place < 20)), "{fault:?}: {places:?}");
     }
 }

@@ -96,14 +96,15 @@ fn seen_from_outside(edit: &str) -> Result<String, String> {
 #[test]
 fn demand_3_of_a_right_card_holds_from_outside() {
     let said = seen_from_outside("").unwrap();
-    assert!(said.contains("usable ticks agree"), "{said}");
+    assert!(said.contains("usable ticks and ") && said.contains(" totals agree"), "{said}");
 }
 
 #[test]
 fn a_card_that_takes_one_kind_for_another_is_seen_from_outside() {
     for edit in ["s/kind 2$/kind 1/", "s/kind 1$/kind 2/", "s/kind 1$/kind 0/", "s/kind 2$/kind 0/"] {
         let fault = seen_from_outside(edit).unwrap_err();
-        assert!(fault.contains("usable ticks") || fault.contains("meant is no 9"), "{edit}: {fault}");
+        let seen = ["usable ticks", "told to come back", "meant is no 9"].iter().any(|by| fault.contains(by));
+        assert!(seen, "{edit}: {fault}");
     }
 }
 
@@ -150,6 +151,28 @@ fn a_card_with_another_number_or_detail_is_seen() {
     for (edit, what) in edits {
         let fault = answered_otherwise(&ON_CARD, "card", edit).unwrap_err();
         assert!(fault.contains(what), "{edit}: {fault}");
+    }
+}
+
+/// A line as it was before request 5, one with a number too many, and other totals.
+const OTHER_TOTALS: [&str; 7] = [
+    "s/^(ok .*) [0-9]+$/\\1/",
+    "s/^(ok .*)$/\\1 0/",
+    "s/^(ok .*) [0-9]+$/\\1 -/",
+    "s/^(ok .*) [1-9][0-9]*$/\\1 0/",
+    "s/^(ok .*) 0$/\\1 1/",
+    "s/^(ok .*) 32000000$/\\1 31000000/",
+    "s/^(ok [0-9]+ - .*) [0-9]+$/\\1 0/",
+];
+
+#[test]
+fn a_card_with_another_total_is_seen() {
+    for edit in OTHER_TOTALS {
+        let fault = answered_otherwise(&ON_CARD, "card", edit).unwrap_err();
+        assert!(fault.contains("second:  ok "), "{edit}: {fault}");
+        let fault = answered_otherwise(&["outside", "--runs", "400"], "card", edit).unwrap_err();
+        let seen = ["no line of the card", "ticks are told to come back"].iter().any(|by| fault.contains(by));
+        assert!(seen, "{edit}: {fault}");
     }
 }
 

@@ -26,14 +26,16 @@ field-most f fs n h g = omega (arith, length-append f (fields fs))
 
 pub line-most : (r : Reply) → length (lineOf r) ≤ longest
 line-most (Done r) =
-    let m : List (List ℕ) = timerText (r .timer) ∷ [] in
+    let t : List (List ℕ) = decimal (r .brought .0) ∷ [] in
+    let m : List (List ℕ) = timerText (r .timer) ∷ t in
     let u : List (List ℕ) = decimal (r .usable .0) ∷ m in
     let h : List (List ℕ) = holderText (r .run) ∷ u in
-    let a = field-most (timerText (r .timer)) [] 1 (timer-most (r .timer)) (omega arith) in
-    let b = field-most (decimal (r .usable .0)) m 22 (figures-length 20 (r .usable .0)) a in
-    let c = field-most (holderText (r .run)) u 43 (holder-most (r .run)) b in
-    let d = field-most (decimal (r .time .0)) h 64 (figures-length 20 (r .time .0)) c in
-    omega (arith, d)
+    let a = field-most (decimal (r .brought .0)) [] 1 (figures-length 20 (r .brought .0)) (omega arith) in
+    let b = field-most (timerText (r .timer)) t 22 (timer-most (r .timer)) a in
+    let c = field-most (decimal (r .usable .0)) m 43 (figures-length 20 (r .usable .0)) b in
+    let d = field-most (holderText (r .run)) u 64 (holder-most (r .run)) c in
+    let e = field-most (decimal (r .time .0)) h 85 (figures-length 20 (r .time .0)) d in
+    omega (arith, e)
 line-most (No r) =
     let m : List (List ℕ) = decimal (r .detail) ∷ [] in
     let a = field-most (decimal (r .detail)) [] 1 (figures-length 20 (r .detail)) (omega arith) in

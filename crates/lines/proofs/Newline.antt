@@ -61,7 +61,8 @@ refusal-one r =
 
 line-one : (r : Reply) → newlines (lineOf r) ≡ 1
 line-one (Done r) =
-    let m : List (List ℕ) = timerText (r .timer) ∷ [] in
+    let t : List (List ℕ) = decimal (r .brought .0) ∷ [] in
+    let m : List (List ℕ) = timerText (r .timer) ∷ t in
     let u : List (List ℕ) = decimal (r .usable .0) ∷ m in
     let h : List (List ℕ) = holderText (r .run) ∷ u in
     omega (
@@ -69,7 +70,8 @@ line-one (Done r) =
       field-none (decimal (r .time .0)) h (figures-none 20 (r .time .0)),
       field-none (holderText (r .run)) u (holder-none (r .run)),
       field-none (decimal (r .usable .0)) m (figures-none 20 (r .usable .0)),
-      field-none (timerText (r .timer)) [] (timer-none (r .timer)),
+      field-none (timerText (r .timer)) t (timer-none (r .timer)),
+      field-none (decimal (r .brought .0)) [] (figures-none 20 (r .brought .0)),
     )
 line-one (No r) = refusal-one r
 

@@ -78,7 +78,8 @@ TimerFits (At m) = m .0 < 2 ^ 64
 
 -- its numbers are below 2 ^ 64
 abbrev pub Fits : Reply → Type 0
-Fits (Done r) = (r .time .0 < 2 ^ 64) × (HolderFits (r .run)) × (r .usable .0 < 2 ^ 64) × (TimerFits (r .timer))
+Fits (Done r) =
+    (r .time .0 < 2 ^ 64) × (HolderFits (r .run)) × (r .usable .0 < 2 ^ 64) × (TimerFits (r .timer)) × (r .brought .0 < 2 ^ 64)
 Fits (No r) = (r .number < 2 ^ 64) × (r .detail < 2 ^ 64)
 
 plain-holder : (h : Holder) → Plain (holderText h)
@@ -101,10 +102,10 @@ same-timer Unset (At m) p q e = no-dash (m .0) e
 same-timer (At m) Unset p q e = no-dash (m .0) (sym e)
 same-timer (At m) (At n) p q e = ap (λ (k : ℕ). At (moment k)) (same-number (m .0) (n .0) p q e)
 
-same-report : {a a′ : ℕ} {h h′ : Holder} {u u′ : ℕ} {t t′ : Timer} → a ≡ a′ → h ≡ h′ → u ≡ u′ → t ≡ t′
-    → _≡_ {A = Report} (record { time = moment a; run = h; usable = amount u; timer = t })
-    (record { time = moment a′; run = h′; usable = amount u′; timer = t′ })
-same-report e f g k = rw (e, f, g, k)
+same-report : {a a′ : ℕ} {h h′ : Holder} {u u′ : ℕ} {t t′ : Timer} {b b′ : ℕ} → a ≡ a′ → h ≡ h′ → u ≡ u′ → t ≡ t′ → b ≡ b′
+    → _≡_ {A = Report} (record { time = moment a; run = h; usable = amount u; timer = t; brought = amount b })
+    (record { time = moment a′; run = h′; usable = amount u′; timer = t′; brought = amount b′ })
+same-report e f g k l = rw (e, f, g, k, l)
 
 same-refusal : {a a′ b b′ : ℕ} → a ≡ a′ → b ≡ b′
     → _≡_ {A = Refusal} (record { number = a; detail = b }) (record { number = a′; detail = b′ })
@@ -122,16 +123,20 @@ line-shows (No r) (No q) p k e =
     ap No
     (same-refusal (same-number (r .number) (q .number) (p .0) (k .0) (a .0)) (same-number (r .detail) (q .detail) (p .1) (k .1) (b .0)))
 line-shows (Done r) (Done q) p k e =
-    let m : Report → List (List ℕ) = λ x. timerText (x .timer) ∷ [] in
-    let u : Report → List (List ℕ) = λ x. decimal (x .usable .0) ∷ timerText (x .timer) ∷ [] in
-    let h : Report → List (List ℕ) = λ x. holderText (x .run) ∷ decimal (x .usable .0) ∷ timerText (x .timer) ∷ [] in
+    let t : Report → List (List ℕ) = λ x. decimal (x .brought .0) ∷ [] in
+    let m : Report → List (List ℕ) = λ x. timerText (x .timer) ∷ t x in
+    let u : Report → List (List ℕ) = λ x. decimal (x .usable .0) ∷ m x in
+    let h : Report → List (List ℕ) = λ x. holderText (x .run) ∷ u x in
     let s : fields (decimal (r .time .0) ∷ h r) ≡ fields (decimal (q .time .0) ∷ h q) = cc in
     let a = next-field (decimal (r .time .0)) (decimal (q .time .0)) (h r) (h q)
     (plain-decimal (r .time .0)) (plain-decimal (q .time .0)) s in
     let b = next-field (holderText (r .run)) (holderText (q .run)) (u r) (u q) (plain-holder (r .run)) (plain-holder (q .run)) (a .1) in
     let c = next-field (decimal (r .usable .0)) (decimal (q .usable .0)) (m r) (m q)
     (plain-decimal (r .usable .0)) (plain-decimal (q .usable .0)) (b .1) in
-    let d = next-field (timerText (r .timer)) (timerText (q .timer)) [] [] (plain-timer (r .timer)) (plain-timer (q .timer)) (c .1) in
+    let d = next-field (timerText (r .timer)) (timerText (q .timer)) (t r) (t q) (plain-timer (r .timer)) (plain-timer (q .timer)) (c .1) in
+    let i = next-field (decimal (r .brought .0)) (decimal (q .brought .0)) [] []
+    (plain-decimal (r .brought .0)) (plain-decimal (q .brought .0)) (d .1) in
     ap Done
     (same-report (same-number (r .time .0) (q .time .0) (p .0) (k .0) (a .0)) (same-holder (r .run) (q .run) (p .1) (k .1) (b .0))
-    (same-number (r .usable .0) (q .usable .0) (p .2) (k .2) (c .0)) (same-timer (r .timer) (q .timer) (p .3) (k .3) (d .0)))
+    (same-number (r .usable .0) (q .usable .0) (p .2) (k .2) (c .0)) (same-timer (r .timer) (q .timer) (p .3) (k .3) (d .0))
+    (same-number (r .brought .0) (q .brought .0) (p .4) (k .4) (i .0)))

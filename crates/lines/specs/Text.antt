@@ -28,10 +28,12 @@ abbrev pub timerText : Timer → List ℕ
 timerText Unset = dash
 timerText (At t) = decimal (t .0)
 
--- `ok TIME RUN USABLE TIMER`
+-- `ok TIME RUN USABLE TIMER BROUGHT`
 abbrev pub reportText : Report → List ℕ
 reportText r =
-    ok ++ fields (decimal (r .time .0) ∷ holderText (r .run) ∷ decimal (r .usable .0) ∷ timerText (r .timer) ∷ [])
+    ok
+    ++ fields
+    (decimal (r .time .0) ∷ holderText (r .run) ∷ decimal (r .usable .0) ∷ timerText (r .timer) ∷ decimal (r .brought .0) ∷ [])
 
 -- `no NUMBER DETAIL`
 abbrev pub refusalText : Refusal → List ℕ
@@ -41,9 +43,9 @@ abbrev pub lineOf : Reply → List ℕ
 lineOf (Done r) = reportText r
 lineOf (No r) = refusalText r
 
--- no line is longer: two letters, four fields of at most 20 digits, each behind a space, and a newline
+-- no line is longer: two letters, five fields of at most 20 digits, each behind a space, and a newline
 abbrev pub longest : ℕ
-longest = 87
+longest = 108
 
 -- the line, where a longest one has room
 abbrev pub lineIn : Reply → List ℕ → List ℕ

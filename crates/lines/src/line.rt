@@ -1,4 +1,4 @@
-// The line of a reply: `ok TIME RUN USABLE TIMER` or `no NUMBER DETAIL`, and a newline.
+// The line of a reply: `ok TIME RUN USABLE TIMER BROUGHT` or `no NUMBER DETAIL`, and a newline.
 use text::put_number;
 use turns::Holder;
 use turns::Refusal;
@@ -12,8 +12,8 @@ ghost use lib.ListN.{length};
 ghost use Rattle.text.specs.Text.{decimal, over, Put};
 ghost use Rattle.lines.specs.Text.{dash, holderText, timerText, reportText, refusalText, lineOf, lineIn, longest};
 
-// No line has more bytes: two letters, four numbers of at most 20 digits, each behind a space, and a newline.
-pub const LONGEST_LINE: usize = 87;
+// No line has more bytes: two letters, five numbers of at most 20 digits, each behind a space, and a newline.
+pub const LONGEST_LINE: usize = 108;
 
 // A space and a number.
 fn put_field(out: &mut [u8], at: usize, n: u64) -> usize
@@ -74,7 +74,8 @@ fn put_report(out: &mut [u8], at: usize, report: Report) -> usize
     let b = put_holder(out, a, run);
     let c = put_field(out, b, report.usable.ticks() as u64);
     let d = put_timer(out, c, timer);
-    put_end(out, d)
+    let e = put_field(out, d, report.brought.ticks() as u64);
+    put_end(out, e)
 }
 
 fn put_refusal(out: &mut [u8], at: usize, refusal: Refusal) -> usize

@@ -38,7 +38,7 @@ struct Event {
 }
 
 // What the generator remembers: the time of the last accepted call and the timer; the sums, of times and timers, of the identifiers that
-// ran, of usable amounts, of refusals' numbers, of their details; and how many calls were refused.
+// ran, of amounts, usable and brought, of refusals' numbers, of their details; and how many calls were refused.
 struct Seen {
     last: Moment,
     timer: Moment,
@@ -399,6 +399,7 @@ fn seen_done(old: Seen, r: Report) -> Seen {
     let run = r.run;
     let time = r.time;
     let usable = r.usable;
+    let brought = r.brought;
     let until = r.timer;
     let timer = timer_moment(until);
     Seen {
@@ -406,7 +407,10 @@ fn seen_done(old: Seen, r: Report) -> Seen {
         timer,
         times: joined(joined(old.times, time.ticks()), timer.ticks()),
         tunnels: joined(old.tunnels, tunnel_number(run)),
-        amounts: joined(old.amounts, usable.ticks() as u64),
+        amounts: joined(
+            old.amounts,
+            usable.ticks() as u64 * 31 + brought.ticks() as u64,
+        ),
         numbers: old.numbers,
         details: old.details,
         refused: old.refused,

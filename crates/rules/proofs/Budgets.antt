@@ -123,7 +123,7 @@ splits now (e ∷ q) = go (leb (e .due) now) refl (splits now q)
     go true h p = (e ∷ p .0, ap (λ (l : List Entry). e ∷ l) (p .1), (leb-true (e .due) now h, p .2), omega (arith, p .3))
     go false h p = ([], refl, tt, refl)
 
-one-split : (now : ℕ) (back rest : List Entry) → All (λ e. e .due ≤ now) back → All (λ e. now < e .due) rest
+pub one-split : (now : ℕ) (back rest : List Entry) → All (λ e. e .due ≤ now) back → All (λ e. now < e .due) rest
     → (still now (back ++ rest) ≡ rest) × (brought now (back ++ rest) ≡ total back)
 one-split now [] [] h k = (refl, refl)
 one-split now [] (e ∷ rest) h k = rw (lt-leb (e .due) now (k .0)) (refl, refl)
@@ -149,7 +149,7 @@ one-first-after now T b n m p q =
     p .1 ∙ ap (λ (x : ℕ). b + x * T) e ∙ sym (q .1)
 
 -- who keeps its ticks and who loses them: a polling VCPU that is not runnable
-kept-or-taken : {A : Type 0} (d : Description) (runnable : Bool) → ((d .kind ≡ 2 → runnable ≡ true) → A)
+pub kept-or-taken : {A : Type 0} (d : Description) (runnable : Bool) → ((d .kind ≡ 2 → runnable ≡ true) → A)
     → (d .kind ≡ 2 → runnable ≡ false → A) → A
 kept-or-taken d true f g = f (λ k. refl)
 kept-or-taken d false f g = by-polling d (λ k. g k refl) (λ n. f (λ k. absurd (n k)))
@@ -408,7 +408,7 @@ module _ (c : Card) (now : ℕ) (v : Vcpu) where
       budget-of w (inl e) = subst (Budget c now v) (marked-again ∙ sym e) (marked (u .runnable))
       budget-of w (inr p) = subst (Budget c now v) (sym (p .1)) (marked (p .0))
 
-  one-loss : (a b : ℕ) → Loses c now v a → Loses c now v b → a ≡ b
+  pub one-loss : (a b : ℕ) → Loses c now v a → Loses c now v b → a ≡ b
   one-loss a b (held e) (held f) = refl
   one-loss a b (held e) (not-held n) = absurd (n e)
   one-loss a b (not-held n) (held f) = absurd (n f)

@@ -1,4 +1,5 @@
--- Document 01's whole case, through the rules: nine of its ten records reach the card, and what each of them gives; and the numbers
+-- Document 01's whole case, through the rules: nine of its ten records reach the card, and what each of them gives, with the ticks that
+-- came back (02, No. 5); and the numbers
 -- of the card, each at its limit and one beyond; and the rows of admit, where several apply. Assumes nothing.
 use Prim.Native.Nat.{ℕ}
 use mathlib.Core.Path.{_≡_, refl}
@@ -19,8 +20,9 @@ abbrev pub replies : Card → List Call → List Reply
 replies c [] = []
 replies c (call ∷ calls) = (turn c call) .reply ∷ replies ((turn c call) .card) calls
 
-abbrev pub says : ℕ → Option ℕ → ℕ → Option ℕ → Reply
-says time run usable timer = ok (record { time = time; run = run; usable = usable; timer = timer })
+abbrev pub says : ℕ → Option ℕ → ℕ → Option ℕ → ℕ → Reply
+says time run usable timer brought =
+    ok (record { time = time; run = run; usable = usable; timer = timer; brought = brought })
 
 abbrev pub no′ : ℕ → ℕ → Reply
 no′ number detail = refused (record { number = number; detail = detail })
@@ -37,14 +39,14 @@ pub case :
     ∷ at 11 (block 65793)
     ∷ at 11 (remove 65537)
     ∷ [])
-    ≡ says 0 none 0 none
-    ∷ says 0 none 0 none
-    ∷ says 0 (some 65793) 3 (some 3)
-    ∷ says 0 (some 65793) 3 (some 3)
-    ∷ says 3 (some 257) 8 (some 10)
+    ≡ says 0 none 0 none 0
+    ∷ says 0 none 0 none 0
+    ∷ says 0 (some 65793) 3 (some 3) 0
+    ∷ says 0 (some 65793) 3 (some 3) 0
+    ∷ says 3 (some 257) 8 (some 10) 0
     ∷ no′ 3 10
-    ∷ says 10 (some 65793) 3 (some 13)
-    ∷ says 11 (some 257) 8 (some 19)
+    ∷ says 10 (some 65793) 3 (some 13) 3
+    ∷ says 11 (some 257) 8 (some 19) 7
     ∷ no′ 7 0
     ∷ []
 unfolding turn refusal settled timer moreUrgent charged posted
@@ -71,9 +73,9 @@ pub limits :
     ∷ no′ 5 0
     ∷ no′ 11 0
     ∷ no′ 10 0
-    ∷ says 0 none 0 none
-    ∷ says 0 none 0 none
-    ∷ says 1_000_000_000_000 none 0 none
+    ∷ says 0 none 0 none 0
+    ∷ says 0 none 0 none 0
+    ∷ says 1_000_000_000_000 none 0 none 0
     ∷ []
 unfolding turn refusal settled timer moreUrgent charged posted
 limits = refl
@@ -110,7 +112,7 @@ pub first-rows :
     ∷ asks 7 10 3 0
     ∷ asks 8 10 3 0
     ∷ [])
-    ≡ says 0 none 0 none
+    ≡ says 0 none 0 none 0
     ∷ no′ 4 0
     ∷ no′ 4 0
     ∷ no′ 4 0
@@ -128,7 +130,7 @@ pub first-rows :
     ∷ no′ 12 0
     ∷ no′ 10 0
     ∷ no′ 6 0
-    ∷ says 0 none 0 none
+    ∷ says 0 none 0 none 0
     ∷ []
 unfolding turn refusal settled timer moreUrgent charged posted
 first-rows = refl

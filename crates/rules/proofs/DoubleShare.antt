@@ -63,12 +63,12 @@ double = refl
 pub not-here :
     (together (heard rejoins) ≡ 3 ∷ [])
     × (replies rejoins
-    ≡ says 6 none 0 none
+    ≡ says 6 none 0 none 0
     ∷ no′ 7 0
     ∷ no′ 9 10
-    ∷ says 3 none 0 none
-    ∷ says 0 (some 2) 3 (some 3)
-    ∷ says 0 none 0 none
+    ∷ says 3 none 0 none 0
+    ∷ says 0 (some 2) 3 (some 3) 0
+    ∷ says 0 none 0 none 0
     ∷ [])
 unfolding turn refusal settled timer moreUrgent charged posted
 not-here = (refl, refl)
@@ -78,7 +78,7 @@ abbrev backAt : List ℕ → ℕ → List Call → List Reply
 backAt nows kind calls = map (λ now. turn (after calls) (at now (admit (server kind 10 3))) .reply) nows
 
 -- .. and at that very time it comes back, though no call came to clear it away
-pub in-time : backAt (3 ∷ 9 ∷ 10 ∷ []) 0 leaves ≡ no′ 9 10 ∷ no′ 9 10 ∷ says 10 none 0 none ∷ []
+pub in-time : backAt (3 ∷ 9 ∷ 10 ∷ []) 0 leaves ≡ no′ 9 10 ∷ no′ 9 10 ∷ says 10 none 0 none 0 ∷ []
 unfolding turn refusal settled timer moreUrgent charged posted
 in-time = refl
 
@@ -101,7 +101,7 @@ pub triple : together (heard01 (at 16 tick ∷ at 13 (wake 2) ∷ at 13 (admit (
 unfolding turn refusal settled timer moreUrgent charged posted
 triple = refl
 
-pub at-its-boundary : backAt (13 ∷ 19 ∷ 20 ∷ []) 1 leavesFull ≡ no′ 9 20 ∷ no′ 9 20 ∷ says 20 none 0 none ∷ []
+pub at-its-boundary : backAt (13 ∷ 19 ∷ 20 ∷ []) 1 leavesFull ≡ no′ 9 20 ∷ no′ 9 20 ∷ says 20 none 0 none 0 ∷ []
 unfolding turn refusal settled timer moreUrgent charged posted
 at-its-boundary = refl
 
@@ -119,7 +119,7 @@ unfolding turn refusal settled timer moreUrgent charged posted
 cleared = (refl, refl, refl, refl)
 
 -- so after that refused call, at 12, the card's time is still 3, and an admit at 9 is refused
-pub not-cleared : backAt (9 ∷ 10 ∷ []) 0 (at 12 (wake 3) ∷ leaves) ≡ no′ 9 10 ∷ says 10 none 0 none ∷ []
+pub not-cleared : backAt (9 ∷ 10 ∷ []) 0 (at 12 (wake 3) ∷ leaves) ≡ no′ 9 10 ∷ says 10 none 0 none 0 ∷ []
 unfolding turn refusal settled timer moreUrgent charged posted
 not-cleared = refl
 
@@ -146,11 +146,11 @@ abbrev briefly : ℕ → List Call
 briefly kind = at 0 (remove 2) ∷ at 0 (admit (server kind 10 3)) ∷ []
 
 pub at-once :
-    (backAt (0 ∷ []) 0 (briefly 0) ≡ says 0 none 0 none ∷ [])
+    (backAt (0 ∷ []) 0 (briefly 0) ≡ says 0 none 0 none 0 ∷ [])
     × (backAt (10 ∷ []) 0 (at 10 (remove 2) ∷ at 3 (block 2) ∷ at 0 (wake 2) ∷ at 0 (admit (server 0 10 3)) ∷ [])
-    ≡ says 10 none 0 none ∷ [])
-    × (backAt (0 ∷ 9 ∷ 10 ∷ []) 1 (briefly 1) ≡ no′ 9 10 ∷ no′ 9 10 ∷ says 10 none 0 none ∷ [])
-    × (backAt (0 ∷ 9 ∷ 10 ∷ []) 2 (briefly 2) ≡ no′ 9 10 ∷ no′ 9 10 ∷ says 10 none 0 none ∷ [])
+    ≡ says 10 none 0 none 0 ∷ [])
+    × (backAt (0 ∷ 9 ∷ 10 ∷ []) 1 (briefly 1) ≡ no′ 9 10 ∷ no′ 9 10 ∷ says 10 none 0 none 0 ∷ [])
+    × (backAt (0 ∷ 9 ∷ 10 ∷ []) 2 (briefly 2) ≡ no′ 9 10 ∷ no′ 9 10 ∷ says 10 none 0 none 0 ∷ [])
 unfolding turn refusal settled timer moreUrgent charged posted
 at-once = (refl, refl, refl, refl)
 
@@ -175,12 +175,12 @@ asks tunnel = at 0 (admit (record { tunnel = tunnel; period = 10; capacity = 3; 
 pub two-keys :
     replies (at 0 (remove 65793) ∷ at 0 (wake 257) ∷ asks 65793 ∷ asks 257 ∷ asks 65793 ∷ at 0 (remove 65793) ∷ asks 65793 ∷ [])
     ≡ no′ 7 0
-    ∷ says 0 (some 257) 3 (some 3)
+    ∷ says 0 (some 257) 3 (some 3) 0
     ∷ no′ 9 10
-    ∷ says 0 none 0 none
+    ∷ says 0 none 0 none 0
     ∷ no′ 9 10
-    ∷ says 0 none 0 none
-    ∷ says 0 none 0 none
+    ∷ says 0 none 0 none 0
+    ∷ says 0 none 0 none 0
     ∷ []
 unfolding turn refusal settled timer moreUrgent charged posted
 two-keys = refl
@@ -196,8 +196,8 @@ abbrev mixed : ℕ → List Call
 mixed n = each (λ tunnel. at 0 (remove tunnel)) 12 (each asks n [])
 
 pub places :
-    (backAt (0 ∷ 9 ∷ 10 ∷ []) 0 (mixed 32) ≡ no′ 8 0 ∷ no′ 8 0 ∷ says 10 none 0 none ∷ [])
+    (backAt (0 ∷ 9 ∷ 10 ∷ []) 0 (mixed 32) ≡ no′ 8 0 ∷ no′ 8 0 ∷ says 10 none 0 none 0 ∷ [])
     × (turn (after (mixed 32)) (asks 100) .reply ≡ no′ 9 10)
-    × (backAt (0 ∷ []) 0 (mixed 31) ≡ says 0 none 0 none ∷ [])
+    × (backAt (0 ∷ []) 0 (mixed 31) ≡ says 0 none 0 none 0 ∷ [])
 unfolding turn refusal settled timer moreUrgent charged posted
 places = (refl, refl, refl)

@@ -56,7 +56,7 @@ answerHead c call none =
     let d : Card =
     settled (call .now)
     (change (call .now) (call .asked) (map (returnedHead (call .now)) (chargeHead (call .now - c .last) (c .running) (c .vcpus)))) [] in
-    record { reply = ok (report d); card = d }
+    record { reply = ok (report 0 d); card = d }
 
 abbrev turnHead : Card → Call → Answer
 turnHead c call = answerHead c call (refusal c (call .now) (call .asked))

@@ -1,16 +1,18 @@
--- The theorems about the rules (Demand3, Meaning, Rows, Marks, Budgets, Leaving), computed examples (Case, Examples, HeadEntry, Bursts,
--- DoubleShare), and the laws that carry them. Assumes nothing.
+-- The theorems about the rules (Demand3, Meaning, Rows, Marks, Budgets, Brought, Leaving), computed examples (Case, Examples, HeadEntry,
+-- Bursts, DoubleShare, Totals), and the laws that carry them. Assumes nothing.
 pub mod Demand3
 pub mod Meaning
 pub mod Rows
 pub mod Marks
 pub mod Budgets
+pub mod Brought
 pub mod Leaving
 pub mod Case
 pub mod Examples
 pub mod HeadEntry
 pub mod Bursts
 pub mod DoubleShare
+pub mod Totals
 pub mod Tests
 pub mod Lists
 pub mod Named
@@ -18,6 +20,7 @@ pub mod ThreeKinds
 pub mod Urgency
 pub mod Choice
 pub mod Timer
+pub mod Told
 pub mod Slices
 pub mod LatestSlice
 pub mod Window

@@ -12,7 +12,7 @@ use Rattle.rules.specs.Remember.{Remembered, kept}
 use Rattle.rules.specs.Card.{Card, empty}
 use Rattle.rules.specs.Timer.{timer}
 use Rattle.rules.specs.Refuse.{Refusal, refusal}
-use Rattle.rules.specs.Turn.{Call, ok, refused, report, turn, settled, accepted, afterReturn, afterChange, rememberedThen}
+use Rattle.rules.specs.Turn.{Call, ok, refused, reported, turn, settled, accepted, afterReturn, afterChange, rememberedThen}
 use Rattle.rules.specs.History.{after, heard, time, holder, past, ticks, holds}
 use Rattle.rules.specs.Stays.{Stay, stays, changeStays}
 use Rattle.rules.proofs.Named.{is-named}
@@ -39,7 +39,7 @@ unfolding turn
 reply-refused c call r e = rw e
 
 pub reply-accepted : (c : Card) (call : Call) → refusal c (call .now) (call .asked) ≡ none
-    → turn c call .reply ≡ ok (report (accepted c call))
+    → turn c call .reply ≡ ok (reported c call)
 unfolding turn
 reply-accepted c call e = rw e
 

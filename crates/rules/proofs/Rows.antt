@@ -19,7 +19,7 @@ use Rattle.rules.specs.Card.{Card, onCard}
 use Rattle.rules.specs.Change.{Change, admit, wake, block, remove, tick}
 use Rattle.rules.specs.Refuse.{Refusal, row, aboveLargest, belowLast, isLate, rowLate, above24Bits, rowRemembered}
 use Rattle.rules.specs.Refuse.{admitRows, namingRows, callRows, refusal}
-use Rattle.rules.specs.Turn.{Call, ok, refused, turn, accepted, answered, report, settled}
+use Rattle.rules.specs.Turn.{Call, ok, refused, turn, answered, reported, settled}
 use Rattle.rules.specs.History.{after}
 use Rattle.rules.specs.Meaning.{Sporadic, Deferrable, Polling, OnTheCard, RememberedWith}
 use Rattle.rules.specs.Rows.{AdmitOf, WakeBlockRemoveOf, Row, row-1, row-2, row-3, row-4, row-5, row-6, row-7, row-8}
@@ -410,7 +410,7 @@ module _ (c : Card) (call : Call) where
         back none r e = let z : _≡_ {A = ℕ} 0 1 = cc in absurd (omega arith)
         back (some q) r e = refl
 
-        passes : (o : Option Refusal) → Says o → answered c call o .reply ≡ ok (report (accepted c call)) → NoRow c call
+        passes : (o : Option Refusal) → Says o → answered c call o .reply ≡ ok (reported c call) → NoRow c call
         passes none s e = s
         passes (some r) s e = let z : _≡_ {A = ℕ} 0 1 = cc in absurd (omega arith)
 

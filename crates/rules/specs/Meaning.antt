@@ -115,9 +115,9 @@ pub record Meaning (c : Card) : Type 0 where
   pub on-card : (tunnel : ℕ) → onCard tunnel (c .vcpus) ≡ true ↔ OnTheCard (c .vcpus) tunnel
   pub finds : (tunnel : ℕ) (v : Vcpu) → find tunnel (c .vcpus) ≡ some v ↔ (Among v (c .vcpus) × (v .terms .tunnel ≡ tunnel))
   -- the report has the time, who runs and the timer of the card, and the usable ticks of the one that runs, 0 in idle
-  pub reports-card : (report c .time ≡ c .last) × (report c .run ≡ c .running) × (report c .timer ≡ c .timer)
-  pub reports : (v : Vcpu) → MayRun (c .vcpus) v → report c .usable ≡ v .usable
-  pub reports-idle : c .running ≡ none → report c .usable ≡ 0
+  pub reports-card : (n : ℕ) → (report n c .time ≡ c .last) × (report n c .run ≡ c .running) × (report n c .timer ≡ c .timer)
+  pub reports : (n : ℕ) (v : Vcpu) → MayRun (c .vcpus) v → report n c .usable ≡ v .usable
+  pub reports-idle : (n : ℕ) → c .running ≡ none → report n c .usable ≡ 0
   -- what stands on the card is one of the three kinds, and nothing else
   pub one-of-three : All (λ v. Sporadic (v .terms) ⊎ Deferrable (v .terms) ⊎ Polling (v .terms)) (c .vcpus)
   -- "Usable plus pending equals C after every accepted call", of the sporadic ones; and the boundaries of the others

@@ -14,7 +14,7 @@ use Rattle.rules.specs.Vcpu.{Description}
 use Rattle.rules.specs.Card.{Card}
 use Rattle.rules.specs.Change.{Change, admit, wake, block, remove}
 use Rattle.rules.specs.Refuse.{Refusal}
-use Rattle.rules.specs.Turn.{Call, ok, refused, turn, accepted, report}
+use Rattle.rules.specs.Turn.{Call, ok, refused, turn, accepted, reported}
 use Rattle.rules.specs.Meaning.{Sporadic, Deferrable, Polling, OnTheCard, RememberedWith}
 
 -- an admit of this identifier
@@ -73,7 +73,7 @@ pub record Table (c : Card) (call : Call) : Type 0 where
   pub refuses : (number detail : ℕ)
       → turn c call .reply ≡ refused (record { number = number; detail = detail }) ↔ First c call number detail
   pub hands-back : (r : Refusal) → turn c call .reply ≡ refused r → turn c call .card ≡ c
-  pub accepts : turn c call .reply ≡ ok (report (accepted c call)) ↔ NoRow c call
+  pub accepts : turn c call .reply ≡ ok (reported c call) ↔ NoRow c call
   -- then the card handed on is that after the five steps, and its time is the call's
   pub hands-on : NoRow c call → turn c call .card ≡ accepted c call
   pub at-now : NoRow c call → turn c call .card .last ≡ call .now

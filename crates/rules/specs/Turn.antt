@@ -11,18 +11,20 @@ use Rattle.rules.specs.Return.{bring}
 use Rattle.rules.specs.Change.{Change, change, remember}
 use Rattle.rules.specs.Choose.{choose, runs, usableOf}
 use Rattle.rules.specs.Timer.{timer}
+use Rattle.rules.specs.Told.{Told, tell, total}
 use Rattle.rules.specs.Refuse.{Refusal, refusal}
 
 pub record Call : Type 0 where
   pub now : ℕ
   pub asked : Change
 
--- time, who runs (none in idle), its usable ticks (0 in idle), timer
+-- time, who runs (none in idle), its usable ticks (0 in idle), timer, and the ticks that this call's step 2 brought, over all VCPUs
 pub record Report : Type 0 where
   pub time : ℕ
   pub run : Option ℕ
   pub usable : ℕ
   pub timer : Option ℕ
+  pub brought : ℕ
 
 pub data Reply : Type 0 where
   ok : Report → Reply
@@ -51,18 +53,24 @@ unfoldable pub settled : ℕ → List Vcpu → List Remembered → Card
 settled now vs rs =
     record { last = now; running = runs (choose vs); timer = timer now vs (choose vs); vcpus = vs; remembered = rs }
 
-abbrev pub report : Card → Report
-report c = record { time = c .last; run = c .running; usable = usableOf (choose (c .vcpus)); timer = c .timer }
+-- what step 2 reports, of every VCPU on the card after the charge, those that step 3 then blocks or removes among them
+abbrev pub toldBy : Card → ℕ → List Told
+toldBy c now = tell now (afterCharge c now)
+
+abbrev pub report : ℕ → Card → Report
+report ticks c =
+    record { time = c .last; run = c .running; usable = usableOf (choose (c .vcpus)); timer = c .timer; brought = ticks }
 
 abbrev pub accepted : Card → Call → Card
 accepted c call = settled (call .now) (afterChange c call) (rememberedThen c call)
 
+abbrev pub reported : Card → Call → Report
+reported c call = report (total (toldBy c (call .now))) (accepted c call)
+
 -- "A refusal returns the number and the detail and no result; the state handed back equals the state handed in."
 abbrev pub answered : Card → Call → Option Refusal → Answer
 answered c call (some r) = record { reply = refused r; card = c }
-answered c call none =
-    let d : Card = accepted c call in
-    record { reply = ok (report d); card = d }
+answered c call none = record { reply = ok (reported c call); card = accepted c call }
 
 unfoldable pub turn : Card → Call → Answer
 turn c call = answered c call (refusal c (call .now) (call .asked))

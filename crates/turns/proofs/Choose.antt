@@ -1,5 +1,5 @@
--- In a ranked table the first ready one is the most urgent, and the first slots of the runnable ones before it, and its own if it has
--- a boundary, hold what comes next: what the scan finds is what the rules choose, over every kind. Assumes nothing.
+-- In a ranked table the first ready one is the most urgent, and the times reported of the runnable ones before it, and its own if it has
+-- a boundary, are what comes next: what the scan finds is what the rules choose, over every kind. Assumes nothing.
 use Prim.Native.Nat.{ℕ, suc, _+_, _≤_, min}
 use mathlib.Core.Path.{_≡_, refl, ap, sym, _∙_, subst}
 use mathlib.Core.Bool.{Bool, true, false, cond, _&&_}
@@ -10,12 +10,13 @@ use lib.Dec.{ltb, eqb}
 use lib.ListN.{length}
 use borrow.Author.Tests.{eqb-true, eq-eqb, lt-ltb}
 use Rattle.units.specs.Units.{moment, amount}
+use Rattle.units.specs.declared.Moment.{Moment}
 use Rattle.rules.specs.Lists.{keep, All}
 use Rattle.rules.specs.Vcpu.{Description, moreUrgent, named, times, comes}
 use Rattle.rules.specs.Vcpu.{Vcpu as Tenant}
 use Rattle.rules.specs.Choose.{ready, better, mostUrgent, choose}
 use Rattle.rules.specs.Timer.{earlier, earliest, next, nexts, runnable, above}
-use Rattle.rules.proofs.Tests.{and-right}
+use Rattle.rules.proofs.Tests.{and-right, and-true}
 use Rattle.rules.proofs.Lists.{all-among, map-among}
 use Rattle.rules.proofs.Choice.{chosen}
 use Rattle.rules.proofs.Urgency.{irreflexive, asymmetric}
@@ -58,7 +59,7 @@ pub record Calm (v : Tenant) : Type 0 where
 
 module _ (v : Tenant) (c : Calm v) where
   -- the head of its record is the next time that something comes to it, of every kind
-  next-head : headOf (written v) ≡ timerOf (next v)
+  pub next-head : headOf (written v) ≡ timerOf (next v)
   next-head = head-written v ∙ sym (rises-first 0 (comes v) (c .rises) .2)
 
   next-most : timerOf (next v) ≤ never
@@ -120,10 +121,11 @@ none-before v (w ∷ ws) h = rw (asymmetric (v .terms) (w .terms) (h .0), and-ri
 abbrev pub idleWith : ℕ → Pick
 idleWith s = record { at = idle; usable = amount 0; soon = moment s }
 
-found-stays : (k : Pick) (j : ℕ) (l : List Vcpu) → ltb (k .at) idle ≡ true → picks k j l ≡ k
+found-stays : (k : Pick) (j : ℕ) (l : List Vcpu) (ts : List Moment) → ltb (k .at) idle ≡ true → picks k j l ts ≡ k
 unfolding pickedOf
-found-stays k j [] e = refl
-found-stays k j (v ∷ l) e = rw e (found-stays k (suc j) l e)
+found-stays k j [] ts e = refl
+found-stays k j (v ∷ l) [] e = refl
+found-stays k j (v ∷ l) (t ∷ ts) e = rw e (found-stays k (suc j) l ts e)
 
 -- what the scan of a ranked list from place j on finds, s being the next time that something comes to those before it
 abbrev pub pickFor : ℕ → ℕ → List Tenant → Option Tenant → Pick
@@ -151,15 +153,25 @@ runnable-written v = refl
 abbrev waits : Tenant → ℕ
 waits v = cond (v .runnable) (timerOf (next v)) never
 
-step-ready : (s j : ℕ) (v : Tenant) → Calm v → ready v ≡ true
-    → pickedOf (idleWith s) j (written v)
-    ≡ record { at = j; usable = amount (v .usable); soon = moment (min s (timerOf (v .boundary))) }
-unfolding pickedOf
-step-ready s j v c e = rw (ready-written v ∙ e, own-written v c, usable-written v)
+-- the time reported of it, which is the head of its record where it is runnable
+abbrev pub Heard : (Tenant → Moment) → Tenant → Type 0
+Heard T v = v .runnable ≡ true → T v ≡ moment (headOf (written v))
 
-step-waits : (s j : ℕ) (v : Tenant) → Calm v → ready v ≡ false → pickedOf (idleWith s) j (written v) ≡ idleWith (min s (waits v))
-unfolding pickedOf
-step-waits s j v c e = rw (ready-written v ∙ e, next-head v c, runnable-written v)
+module _ (T : Tenant → Moment) (s j : ℕ) (v : Tenant) (c : Calm v) (h : Heard T v) where
+  step-ready : ready v ≡ true
+      → pickedOf (idleWith s) j (written v) (T v)
+      ≡ record { at = j; usable = amount (v .usable); soon = moment (min s (timerOf (v .boundary))) }
+  unfolding pickedOf
+  step-ready e =
+      rw (ready-written v ∙ e, h (and-true (v .runnable) (ltb 0 (v .usable)) e .0), own-written v c, usable-written v)
+
+  step-waits : ready v ≡ false → pickedOf (idleWith s) j (written v) (T v) ≡ idleWith (min s (waits v))
+  unfolding pickedOf
+  step-waits e = rw (ready-written v ∙ e, runnable-written v, heard (v .runnable) h)
+    where
+      heard : (b : Bool) → (b ≡ true → T v ≡ moment (headOf (written v))) → cond b (T v .0) never ≡ cond b (timerOf (next v)) never
+      heard true f = ap (λ (m : Moment). m .0) (f refl) ∙ next-head v c
+      heard false f = refl
 
 -- the scan of the rest, where the one at j is not ready
 module _ (s j : ℕ) (v : Tenant) (vs : List Tenant) (calm : All Calm (v ∷ vs)) (ranked : Ranked (termsOf (v ∷ vs)))
@@ -200,11 +212,13 @@ module _ (s j : ℕ) (v : Tenant) (vs : List Tenant) (calm : All Calm (v ∷ vs)
           (record { at = k; usable = amount (u .usable); soon = moment n })
       same k p q = rw (p, q)
 
-pub scan : (s j : ℕ) (vs : List Tenant) → s ≤ never → j + length vs ≤ idle → All Calm vs → Ranked (termsOf vs) → Distinct (termsOf vs)
-    → picks (idleWith s) j (map written vs) ≡ pickFor s j vs (choose vs)
-scan s j [] l h calm ranked distinct = ap idleWith (omega arith)
-scan s j (v ∷ vs) l h calm ranked distinct =
-    go (ready v) refl (scan (min s (waits v)) (suc j) vs (omega arith) (omega arith) (calm .1) (ranked .1) (distinct .1))
+pub scan : (T : Tenant → Moment) (s j : ℕ) (vs : List Tenant) → s ≤ never → j + length vs ≤ idle → All Calm vs → All (Heard T) vs
+    → Ranked (termsOf vs) → Distinct (termsOf vs)
+    → picks (idleWith s) j (map written vs) (map T vs) ≡ pickFor s j vs (choose vs)
+scan T s j [] l h calm heard ranked distinct = ap idleWith (omega arith)
+scan T s j (v ∷ vs) l h calm heard ranked distinct =
+    go (ready v) refl
+    (scan T (min s (waits v)) (suc j) vs (omega arith) (omega arith) (calm .1) (heard .1) (ranked .1) (distinct .1))
   where
     first-named : eqb (v .terms .tunnel) (v .terms .tunnel) ≡ true
     first-named = eq-eqb (v .terms .tunnel) (v .terms .tunnel) refl
@@ -223,16 +237,16 @@ scan s j (v ∷ vs) l h calm ranked distinct =
         same p q = rw (p, q)
 
     go : (b : Bool) → ready v ≡ b
-        → picks (idleWith (min s (waits v))) (suc j) (map written vs) ≡ pickFor (min s (waits v)) (suc j) vs (choose vs)
-        → picks (pickedOf (idleWith s) j (written v)) (suc j) (map written vs)
+        → picks (idleWith (min s (waits v))) (suc j) (map written vs) (map T vs) ≡ pickFor (min s (waits v)) (suc j) vs (choose vs)
+        → picks (pickedOf (idleWith s) j (written v) (T v)) (suc j) (map written vs) (map T vs)
         ≡ pickFor s j (v ∷ vs) (mostUrgent (cond b (v ∷ keep ready vs) (keep ready vs)))
     go true e rec =
-        ap (λ (k : Pick). picks k (suc j) (map written vs)) (step-ready s j v (calm .0) e)
+        ap (λ (k : Pick). picks k (suc j) (map written vs) (map T vs)) (step-ready T s j v (calm .0) (heard .0) e)
         ∙ found-stays (record { at = j; usable = amount (v .usable); soon = moment (min s (timerOf (v .boundary))) }) (suc j)
-        (map written vs) (lt-ltb j idle (omega arith))
+        (map written vs) (map T vs) (lt-ltb j idle (omega arith))
         ∙ found
         ∙ ap (λ (w : Tenant). pickFor s j (v ∷ vs) (some w)) (sym (first-chosen v vs (ranked .0)))
     go false e rec =
-        ap (λ (k : Pick). picks k (suc j) (map written vs)) (step-waits s j v (calm .0) e)
+        ap (λ (k : Pick). picks k (suc j) (map written vs) (map T vs)) (step-waits T s j v (calm .0) (heard .0) e)
         ∙ rec
         ∙ later-chosen s j v vs calm ranked distinct (choose vs) refl

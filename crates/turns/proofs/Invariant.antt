@@ -61,6 +61,7 @@ pub record Fits (v : Tenant) : Type 0 where
   pub range : InRange (v .terms)
   pub most : v .usable + pendingTicks v ≤ v .terms .capacity
   pub shows : Shows v
+  pub polls : v .terms .kind ≡ 2 → v .runnable ≡ false → v .usable ≡ 0
 
 pub orderly-formed : (low high now : ℕ) (v : Tenant) → Orderly low high now v → Formed v
 orderly-formed low high now v k =
@@ -69,7 +70,7 @@ orderly-formed low high now v k =
 
 pub kept-fits : (low high now : ℕ) (v : Tenant) → Orderly low high now v → Fits v
 kept-fits low high now v k =
-    record { range = k .range; most = k .most; shows = (k .few, orderly-formed low high now v k) }
+    record { range = k .range; most = k .most; shows = (k .few, orderly-formed low high now v k); polls = k .polls }
 
 -- the rules count those so named; one that stands once stands nowhere else
 pub nowhere : (t : ℕ) (vs : List Tenant) → count (named t) vs ≡ 0 → All (λ e. e .tunnel ≡ t → ⊥) (termsOf vs)

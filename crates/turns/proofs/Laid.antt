@@ -1,5 +1,5 @@
 -- A list laid into an array: reading and writing a place, one more at the end, one put in, one taken out, the first ones taken out, the
--- front, and a front laid anew.
+-- front, a front laid anew, and each one changed.
 -- Assumes nothing.
 use Prim.Native.Nat.{ℕ, zero, suc, _≤_, _<_}
 use mathlib.Core.Path.{_≡_, refl, ap, sym, _∙_}
@@ -8,6 +8,7 @@ use native.Mathlib.Omega.{arith}
 use native.Mathlib.Numerals.{add-one}
 use lib.ListN.{length, take, drop, getD, set, replicate, replicate-append-replicate, length-drop}
 use lib.Seq.{getD-at, set-at, set-append-left}
+use Rattle.rules.specs.Lists.{All}
 use Rattle.turns.specs.Laid.{laid}
 use Rattle.turns.specs.Places.{inserted, removed}
 
@@ -128,3 +129,11 @@ module _ {A B : Type 0} (f : A → B) (z : B) where
   front-all (suc k) (suc n) (a ∷ l) [] h g e = ap (λ (r : List B). f a ∷ r) (front-all k n l [] (omega arith) (omega arith) (omega arith))
   front-all (suc k) (suc n) (a ∷ l) (b ∷ m) h g e =
       ap (λ (r : List B). f a ∷ r) (front-all k n l m (omega arith) (omega arith) (omega arith))
+
+-- two lists laid alike, the second each of the first changed
+pub laid-map : {A B C : Type 0} (f : A → C) (g : B → C) (h : A → B) (z : C) (k : ℕ) (l : List A) → All (λ a. f a ≡ g (h a)) l
+    → laid k f z l ≡ laid k g z (map h l)
+unfolding laid
+laid-map f g h z zero l e = refl
+laid-map f g h z (suc k) [] e = ap (λ r. z ∷ r) (laid-map f g h z k [] e)
+laid-map f g h z (suc k) (a ∷ l) e = rw (e .0, laid-map f g h z k l (e .1))

@@ -4,6 +4,7 @@ pub mod Laid
 pub mod Written
 pub mod Return
 pub mod Refill
+pub mod Reports
 pub mod Places
 pub mod Charge
 pub mod Invariant
@@ -13,6 +14,7 @@ pub mod Remembered
 pub mod Rows
 pub mod Stage
 pub mod Sweep
+pub mod Heard
 pub mod Shape
 pub mod Settle
 pub mod Questions

@@ -6,7 +6,7 @@ use mathlib.Core.Option.{Option, none, some}
 use Rattle.units.specs.declared.Moment.{Moment}
 use Rattle.units.specs.Units.{moment, amount}
 use Rattle.rules.specs.Turn.{Reply as Said}
-use Rattle.rules.specs.Turn.{Report as Told}
+use Rattle.rules.specs.Turn.{Report as ReportRule}
 use Rattle.rules.specs.Turn.{ok, refused, turn}
 use Rattle.rules.proofs.Tests.{clash, no-some}
 use Rattle.turns.specs.declared.Holder.{Holder}
@@ -54,8 +54,8 @@ paper-said (ok r) =
     (paper-holder (r .run)) (paper-timer (r .timer)))
   where
     same : (a a′ b b′ : Option ℕ) → a ≡ a′ → b ≡ b′
-        → _≡_ {A = Told} (record { time = r .time; run = a; usable = r .usable; timer = b })
-        (record { time = r .time; run = a′; usable = r .usable; timer = b′ })
+        → _≡_ {A = ReportRule} (record { time = r .time; run = a; usable = r .usable; timer = b; brought = r .brought })
+        (record { time = r .time; run = a′; usable = r .usable; timer = b′; brought = r .brought })
     same a a′ b b′ p q = rw (p, q)
 paper-said (refused x) = refl
 
@@ -66,8 +66,9 @@ said-paper (Done r) =
     (holder-paper (r .run)) (timer-paper (r .timer)))
   where
     same : (a a′ : Holder) (b b′ : Timer) → a ≡ a′ → b ≡ b′
-        → _≡_ {A = Report} (record { time = moment (r .time .0); run = a; usable = amount (r .usable .0); timer = b })
-        (record { time = r .time; run = a′; usable = r .usable; timer = b′ })
+        → _≡_ {A = Report}
+        (record { time = moment (r .time .0); run = a; usable = amount (r .usable .0); timer = b; brought = amount (r .brought .0) })
+        (record { time = r .time; run = a′; usable = r .usable; timer = b′; brought = r .brought })
     same a a′ b b′ p q = rw (p, q)
 said-paper (No x) = refl
 

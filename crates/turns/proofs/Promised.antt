@@ -7,16 +7,17 @@ use mathlib.Core.Option.{Option, none, some}
 use native.Mathlib.Omega.{arith}
 use Rattle.units.specs.declared.Moment.{Moment}
 use Rattle.rules.specs.Lists.{All}
-use Rattle.rules.specs.Vcpu.{Vcpu as Tenant}
 use Rattle.rules.specs.Card.{Card}
 use Rattle.rules.specs.Refuse.{refusal}
 use Rattle.rules.specs.Refuse.{Refusal as Row}
-use Rattle.rules.specs.Turn.{Call, turn, accepted, report, ok, refused}
-use Rattle.rules.specs.Turn.{Report as Told}
+use Rattle.rules.specs.Told.{total}
+use Rattle.rules.specs.Turn.{Call, turn, accepted, report, ok, refused, toldBy}
+use Rattle.rules.specs.Turn.{reported as reportedBy}
 use Rattle.rules.specs.Turn.{Reply as Said}
 use Rattle.rules.specs.Meaning.{Meaning}
 use Rattle.rules.specs.Rows.{Table, NoRow}
 use Rattle.rules.specs.Budgets.{Budgets}
+use Rattle.rules.specs.Brought.{Brings}
 use Rattle.rules.specs.Marks.{Marks}
 use Rattle.rules.specs.Leaving.{Leaving}
 use Rattle.rules.specs.History.{Exchange, after, heard}
@@ -25,6 +26,7 @@ use Rattle.rules.proofs.Rows.{table-after}
 use Rattle.rules.proofs.Leaving.{leaving}
 use Rattle.rules.proofs.Marks.{marks}
 use Rattle.rules.proofs.Budgets.{budgets}
+use Rattle.rules.proofs.Brought.{brings}
 use Rattle.rules.proofs.Meaning.{meaning}
 use Rattle.rules.proofs.Demand3.{demand3}
 use Rattle.rules.proofs.Reached.{card-accepted, reply-accepted, reply-refused}
@@ -37,7 +39,7 @@ use Rattle.turns.specs.declared.Answer.{Answer}
 use Rattle.turns.specs.Written.{card, coreOf}
 use Rattle.turns.specs.Calls.{asked, callOf, paperReply, replySaid, reportSaid, turned}
 use Rattle.turns.specs.State.{Asking, made, callsOf, ValidCore}
-use Rattle.turns.specs.Promised.{Called, none-yet, one-more, exchanges, Accepted, Next, Promised}
+use Rattle.turns.specs.Promised.{Called, none-yet, one-more, exchanges, Next, Promised}
 use Rattle.turns.proofs.Paper.{paper-said, said-paper, whole-answer}
 use Rattle.turns.proofs.Made.{one-call, made-so}
 
@@ -74,8 +76,16 @@ module _ (calls : List Asking) (now : Moment) (change : Change) where
           let z : _≡_ {A = ℕ} 0 1 = cc in
           absurd (omega arith)
 
-  told-so : (r : Report) → answer .reply ≡ Done r → (turn old call) .reply ≡ ok (report (accepted old call))
+  told-so : (r : Report) → answer .reply ≡ Done r → (turn old call) .reply ≡ ok (reportedBy old call)
   told-so r e = reply-accepted old call (reported r e)
+
+  -- and its last number is the rules' total
+  brought-so : (r : Report) → answer .reply ≡ Done r → r .brought .0 ≡ total (toldBy old (call .now))
+  brought-so r e = ap last-number (ap paperReply (sym e) ∙ paper ∙ told-so r e)
+    where
+      last-number : Said → ℕ
+      last-number (ok x) = x .brought
+      last-number (refused x) = 0
 
   no-row : (r : Report) → answer .reply ≡ Done r → NoRow old call
   no-row r e = (table .accepts) .0 (told-so r e)
@@ -104,16 +114,22 @@ module _ (calls : List Asking) (now : Moment) (change : Change) where
         accepts = (
           λ r. no-row (r .0) (r .1),
           λ n. (
-            reportSaid (report (accepted old call)),
-            replied (Done (reportSaid (report (accepted old call))))
-                ((table .accepts) .1 n ∙ sym (paper-said (ok (report (accepted old call))))),
+            reportSaid (reportedBy old call),
+            replied (Done (reportSaid (reportedBy old call)))
+                ((table .accepts) .1 n ∙ sym (paper-said (ok (reportedBy old call)))),
           ),
         );
         then = λ r e.
             let steps : card (answer .core) ≡ accepted old call = shown ∙ card-accepted old call (reported r e) in
             record {
               five-steps = steps;
-              reports = paper ∙ told-so r e ∙ ap (λ (k : Card). ok (report k)) (sym steps);
+              reports =
+                  paper ∙ told-so r e ∙ ap (λ (k : Card). ok (report (total (toldBy old (call .now))) k)) (sym steps)
+                  ∙ ap (λ (n : ℕ). ok (report n (card (answer .core)))) (sym (brought-so r e));
+              brings =
+                  subst (Brings old call) (sym (brought-so r e))
+                  (subst (λ (k : Card). Brings k call (total (toldBy k (call .now)))) (sym (made-so calls .shows))
+                  (brings (callsOf calls) call (none-after (no-row r e))));
               at-now = ap (λ (k : Card). k .last) shown ∙ table .at-now (no-row r e);
               budgets = carried (λ k d. Budgets k call (d .vcpus)) (budgets (callsOf calls) call (none-after (no-row r e)));
               marks =

@@ -2,13 +2,14 @@
 -- written is shown again. Assumes nothing.
 use Prim.Native.Nat.{ℕ, suc, _+_, _≤_, _<_, min}
 use mathlib.Core.Path.{_≡_, refl, ap, sym, _∙_, subst}
+use mathlib.Core.Bool.{true}
 use mathlib.Core.List.{List, [], _∷_, _++_, map}
 use mathlib.Core.Option.{Option, none, some}
 use native.Mathlib.Omega.{arith}
 use lib.ListN.{length, getD, take, drop, length-take, drop-of-length-le}
 use lib.Seq.{drop-cons, getD-take}
 use native.Mathlib.Numerals.{add-one}
-use borrow.Author.Tests.{lt-ltb, ne-eqb}
+use borrow.Author.Tests.{lt-ltb}
 use Rattle.units.specs.Units.{moment, amount, tunnel}
 use Rattle.units.specs.declared.Moment.{Moment}
 use Rattle.units.specs.declared.Tunnel.{Tunnel}
@@ -18,9 +19,9 @@ use Rattle.rules.specs.Vcpu.{Entry, times, comes}
 use Rattle.rules.specs.Vcpu.{Vcpu as Tenant}
 use Rattle.rules.specs.Card.{Card, empty}
 use Rattle.rules.specs.Choose.{ready, choose, runs, usableOf}
-use Rattle.rules.specs.Timer.{earlier, earliest, nexts, runnable, above, timer}
+use Rattle.rules.specs.Timer.{earlier, earliest, next, nexts, runnable, above, timer}
 use Rattle.rules.specs.Remember.{Remembered}
-use Rattle.rules.specs.Turn.{settled, report, answered, accepted, turn, ok}
+use Rattle.rules.specs.Turn.{settled, report, reported, answered, accepted, turn, ok}
 use Rattle.rules.specs.Refuse.{refusal}
 use Rattle.rules.specs.Refuse.{Refusal as Row}
 use Rattle.units.specs.declared.Amount.{Amount}
@@ -34,7 +35,7 @@ use Rattle.rules.specs.Turn.{Call}
 use Rattle.rules.specs.History.{after}
 use Rattle.rules.specs.Meaning.{Comes, return, boundary}
 use Rattle.rules.proofs.Tests.{no-some}
-use Rattle.rules.proofs.Lists.{all-imp, all-among}
+use Rattle.rules.proofs.Lists.{all-imp, all-both, all-among}
 use Rattle.rules.proofs.Queue.{Rising, rising-wide}
 use Rattle.rules.proofs.Sound.{Sound}
 use Rattle.rules.proofs.Timer.{in-idle, while-running}
@@ -46,13 +47,14 @@ use Rattle.turns.specs.declared.Holder.the-variants.{Vcpu as Held}
 use Rattle.turns.specs.Written.{never, idle, nobody, tunnelOf, written, noTenant, card}
 use Rattle.turns.specs.Written.{coreOf, place, placeOf, timerOf, timerAt, runningAt, tenants, memories, memoryOf}
 use Rattle.turns.proofs.Invariant.{Ranked, termsOf, SoundCore, Between, orderly-formed}
+use Rattle.turns.specs.Laid.{laid}
 use Rattle.turns.specs.Steps.{picks, pickedOf, timerFor}
 use Rattle.turns.specs.Places.{holderOf}
 use Rattle.turns.specs.Calls.{holderSaid, timerSaid, asked, callOf, answerOf, turned}
 use Rattle.turns.proofs.Laid.{laid-get, laid-front}
 use Rattle.turns.proofs.Written.{Formed, queue, refills, tenants-laid}
 use Rattle.turns.proofs.Ranked.{all-get}
-use Rattle.turns.proofs.Choose.{Rises, Calm, nexts-most, idleWith, pickFor, scan}
+use Rattle.turns.proofs.Choose.{Rises, Calm, next-head, nexts-most, idleWith, pickFor, scan}
 use Rattle.turns.proofs.Remembered.{memory-shown, time-back}
 use Rattle.turns.proofs.Rows.{idsOf}
 use Rattle.turns.proofs.Stage.{placesOf, Filled, all-show, all-fit, At, chosen-at}
@@ -211,12 +213,24 @@ module _ (now : ℕ) (vs : List Tenant) (l : now ≤ largestTime) (r : Between n
   timer-said = ap (λ (m : Moment). timerAt (m .0)) timer-found ∙ timer-back
 
   module _ (p : List Vcpu) (ids : List Tunnel) (n : ℕ) (f : Filled p ids n vs) where
-    pub pick-found : picks (idleWith never) 0 (take n p) ≡ pickFor never 0 vs (choose vs)
-    pick-found =
-        ap (λ (q : List Vcpu). picks (idleWith never) 0 (take n q)) (f .places)
-        ∙ ap (λ (k : ℕ). picks (idleWith never) 0 (take k (placesOf vs))) (f .count)
-        ∙ ap (picks (idleWith never) 0) (laid-front written (written noTenant) 32 vs (r .few))
-        ∙ scan never 0 vs (omega arith) (omega (arith, r .few)) (calm now vs l (r .each)) (r .ranked) (r .distinct)
+    -- `T` has the time reported of each, and `ts` these times by their places
+    pub pick-found : (T : Tenant → Moment) (ts : List Moment) → ts ≡ laid 32 T (moment never) vs
+        → All (λ v. v .runnable ≡ true → T v ≡ moment (timerOf (next v))) vs
+        → picks (idleWith never) 0 (take n p) (take n ts) ≡ pickFor never 0 vs (choose vs)
+    pick-found T ts e h =
+        same p (placesOf vs) n (length vs) ts (laid 32 T (moment never) vs) (f .places) (f .count) e
+        ∙ ap (λ (q : List Vcpu). picks (idleWith never) 0 q (take (length vs) (laid 32 T (moment never) vs)))
+        (laid-front written (written noTenant) 32 vs (r .few))
+        ∙ ap (picks (idleWith never) 0 (map written vs)) (laid-front T (moment never) 32 vs (r .few))
+        ∙ scan T never 0 vs (omega arith) (omega (arith, r .few)) calms
+        (all-both (λ v c k t. k t ∙ ap moment (sym (next-head v c))) vs calms h) (r .ranked) (r .distinct)
+      where
+        calms : All Calm vs
+        calms = calm now vs l (r .each)
+
+        same : (p q : List Vcpu) (n m : ℕ) (ts us : List Moment) → p ≡ q → n ≡ m → ts ≡ us
+            → picks (idleWith never) 0 (take n p) (take n ts) ≡ picks (idleWith never) 0 (take m q) (take m us)
+        same p q n m ts us a b c = rw (a, b, c)
 
     core-found : (rs : List Remembered) (m : Memory) → m ≡ memoryOf rs → (k : Pick) → k ≡ pickFor never 0 vs (choose vs)
         → _≡_ {A = Core}
@@ -242,19 +256,31 @@ module _ (now : ℕ) (vs : List Tenant) (l : now ≤ largestTime) (r : Between n
         same p ids t m a n u v w z x y = rw (u, v, w, z, x, y)
 
 -- one place more of the scan, and its end
-pub scan-step : (k : Pick) (j n : ℕ) (p : List Vcpu) (z : Vcpu) → j < n → n ≤ 32 → length p ≡ 32
-    → picks (pickedOf k j (getD p j z)) (j + 1) (drop (j + 1) (take n p)) ≡ picks k j (drop j (take n p))
-scan-step k j n p z h g l =
+pub scan-step : (k : Pick) (j n : ℕ) (p : List Vcpu) (ts : List Moment) (z : Vcpu) (y : Moment) → j < n → n ≤ 32 → length p ≡ 32
+    → length ts ≡ 32
+    → picks (pickedOf k j (getD p j z) (getD ts j y)) (j + 1) (drop (j + 1) (take n p)) (drop (j + 1) (take n ts))
+    ≡ picks k j (drop j (take n p)) (drop j (take n ts))
+scan-step k j n p ts z y h g l m =
     let i : j < length (take n p) = omega (arith, length-take n p) in
-    rw (add-one, drop-cons (take n p) j z i, getD-take n p j z h)
+    let o : j < length (take n ts) = omega (arith, length-take n ts) in
+    rw (
+      add-one,
+      drop-cons (take n p) j z i,
+      getD-take n p j z h,
+      drop-cons (take n ts) j y o,
+      getD-take n ts j y h,
+    )
 
-pub scan-end : (k : Pick) (j n : ℕ) (p : List Vcpu) → j ≤ n → n ≤ j → picks k j (drop j (take n p)) ≡ k
-scan-end k j n p h g = let l : length (take n p) ≤ j = omega (arith, length-take n p) in ap (picks k j) (drop-of-length-le (take n p) l)
+pub scan-end : (k : Pick) (j n : ℕ) (p : List Vcpu) (ts : List Moment) → j ≤ n → n ≤ j
+    → picks k j (drop j (take n p)) (drop j (take n ts)) ≡ k
+scan-end k j n p ts h g =
+    let l : length (take n p) ≤ j = omega (arith, length-take n p) in
+    ap (λ (q : List Vcpu). picks k j q (drop j (take n ts))) (drop-of-length-le (take n p) l)
 
 -- the whole answer of an accepted call, and of a refused one
 pub turned-accepted : (c : Core) (now : Moment) (change : Change) → refusal (card c) (now .0) (asked change) ≡ none
     → turned c now change
-    ≡ answerOf (record { reply = ok (report (accepted (card c) (callOf now change))); card = accepted (card c) (callOf now change) })
+    ≡ answerOf (record { reply = ok (reported (card c) (callOf now change)); card = accepted (card c) (callOf now change) })
 unfolding turned turn
 turned-accepted c now change e = ap (λ (o : Option Row). answerOf (answered (card c) (callOf now change) o)) e
 
@@ -272,14 +298,15 @@ pub answer-found : (now : Moment) (vs : List Tenant) → now .0 ≤ largestTime 
     → (rs : List Remembered) (m : Memory) → m ≡ memoryOf rs
     → (k : Pick) → k ≡ pickFor never 0 vs (choose vs)
     → (t : Moment) → t ≡ timerFor now k → (h : Holder) → h ≡ holderOf ids (k .at) → (s : Timer) → s ≡ timerSaid (timerAt (t .0))
+    → (b : Amount) (x : ℕ) → b .0 ≡ x
     → _≡_ {A = Answer}
     (record {
       core = record { places = p; last = now; ids = ids; timer = t; memory = m; running = k .at; n = n };
-      reply = Done (record { time = now; run = h; usable = k .usable; timer = s });
+      reply = Done (record { time = now; run = h; usable = k .usable; timer = s; brought = b });
     })
-    (answerOf (record { reply = ok (report (settled (now .0) vs rs)); card = settled (now .0) vs rs }))
+    (answerOf (record { reply = ok (report x (settled (now .0) vs rs)); card = settled (now .0) vs rs }))
 unfolding settled
-answer-found now vs l r p ids n f rs m i k e t te h he s se =
+answer-found now vs l r p ids n f rs m i k e t te h he s se b x be =
     same (record { places = p; last = now; ids = ids; timer = t; memory = m; running = k .at; n = n }) (coreOf (settled (now .0) vs rs)) h
     (holderSaid (runs
     (choose vs))) (k .usable) (amount (usableOf (choose vs))) s (timerSaid (timer (now .0) vs (choose vs)))
@@ -290,11 +317,12 @@ answer-found now vs l r p ids n f rs m i k e t te h he s se =
     ∙ holder-found (now .0) vs l r)
     (ap (λ (x : Pick). x .usable) e ∙ usable-found (now .0) vs l r)
     (se ∙ ap (λ (x : Moment). timerSaid (timerAt (x .0))) (te ∙ ap (timerFor now) e) ∙ ap timerSaid (timer-said (now .0) vs l r))
+    (ap amount be)
   where
-    same : (c c′ : Core) (h h′ : Holder) (u u′ : Amount) (s s′ : Timer) → c ≡ c′ → h ≡ h′ → u ≡ u′ → s ≡ s′
-        → _≡_ {A = Answer} (record { core = c; reply = Done (record { time = now; run = h; usable = u; timer = s }) })
-        (record { core = c′; reply = Done (record { time = now; run = h′; usable = u′; timer = s′ }) })
-    same c c′ h h′ u u′ s s′ p q v w = rw (p, q, v, w)
+    same : (c c′ : Core) (h h′ : Holder) (u u′ : Amount) (s s′ : Timer) → c ≡ c′ → h ≡ h′ → u ≡ u′ → s ≡ s′ → b ≡ amount x
+        → _≡_ {A = Answer} (record { core = c; reply = Done (record { time = now; run = h; usable = u; timer = s; brought = b }) })
+        (record { core = c′; reply = Done (record { time = now; run = h′; usable = u′; timer = s′; brought = amount x }) })
+    same c c′ h h′ u u′ s s′ p q v w z = rw (p, q, v, w, z)
 
 -- the empty card
 empty-between : Between 0 []

@@ -1,5 +1,5 @@
--- The change on the written table, and on who is remembered beside it: a newcomer put in, a mark set, one taken out that is remembered
--- then, or nothing. Assumes nothing.
+-- The change on the written table, on who is remembered beside it and on the times reported: a newcomer put in, a mark set, one taken out
+-- that is remembered then, or nothing. Assumes nothing.
 use Prim.Native.Nat.{ℕ, zero, suc, _+_, _-_, _≤_, _<_}
 use mathlib.Core.Path.{_≡_, refl, ap, sym, _∙_, subst}
 use mathlib.Core.Bool.{Bool, true, false, cond, not, _||_}
@@ -9,7 +9,8 @@ use native.Mathlib.Omega.{arith}
 use lib.Dec.{eqb}
 use lib.ListN.{length, getD, set}
 use Rattle.rules.specs.Refuse.{admitRows, namingRows, callRows}
-use Rattle.units.specs.Units.{tunnel}
+use Rattle.units.specs.Units.{moment, tunnel}
+use Rattle.units.specs.declared.Moment.{Moment}
 use Rattle.units.specs.declared.Tunnel.{Tunnel}
 use Rattle.rules.specs.Limits.{largestPeriod, largestTime}
 use Rattle.rules.specs.Lists.{keep, any, All}
@@ -20,13 +21,15 @@ use Rattle.rules.specs.Remember.{Remembered, leavesUntil, remembering, leftBy, 
 use Rattle.rules.specs.Card.{Card, onCard, find, toNamed}
 use Rattle.rules.specs.Change.{placed, setRunnable, admit, wake, leaving}
 use Rattle.rules.specs.Change.{change as changeRule}
-use Rattle.rules.specs.Turn.{afterReturn}
+use Rattle.rules.specs.Told.{Told}
+use Rattle.rules.specs.Turn.{afterCharge, afterReturn, toldBy}
 use Rattle.turns.specs.declared.Vcpu.{Vcpu}
 use Rattle.turns.specs.declared.Description.{Description}
 use Rattle.turns.specs.declared.Change.{Change}
 use Rattle.turns.specs.declared.Change.the-variants.{Admit, Wake, Block, Remove, Tick}
 use Rattle.turns.specs.declared.Memory.{Memory}
-use Rattle.turns.specs.Written.{nobody, tunnelOf, written, noTenant, place, memoryOf}
+use Rattle.turns.specs.Laid.{laid}
+use Rattle.turns.specs.Written.{never, nobody, tunnelOf, written, noTenant, place, memoryOf}
 use Rattle.turns.proofs.Invariant.{Ranked, Distinct, termsOf, Listed}
 use Rattle.turns.specs.Steps.{usableAs, runnableAs}
 use Rattle.turns.specs.Places.{seek, namedAt, spotIn, inserted, removed}
@@ -43,9 +46,10 @@ use Rattle.rules.proofs.Memory.{leaves-within}
 use Rattle.rules.proofs.Accepted.{Admits, admits}
 use Rattle.rules.proofs.Advance.{rows-stepped}
 use Rattle.rules.proofs.Changed.{length-placed}
-use Rattle.turns.proofs.Stage.{placesOf, Filled, filled-set}
+use Rattle.turns.proofs.Stage.{Filled, filled-set}
 use Rattle.turns.proofs.Remembered.{leaving-written}
 use Rattle.turns.proofs.Settle.{calm-one}
+use Rattle.turns.proofs.Heard.{saidOf, timesOf, heard-marked, heard-new}
 
 -- what depends on the terms alone
 abbrev onTerms : ℕ → List Terms → Bool
@@ -94,38 +98,41 @@ module _ (p : List Vcpu) (ids : List Tunnel) (n : ℕ) (vs : List Tenant) (f : F
     room : length vs < 32
     room = omega (arith, q .room)
 
+    -- an array that has something of each tenant, and `y` put in for the newcomer
+    put-filled : {B : Type 0} (g : Tenant → B) (z y : B) (a : List B) → a ≡ laid 32 g z vs → y ≡ g new
+        → inserted (spotIn (described d) n p ids) y a ≡ laid 32 g z (placed new vs)
+    put-filled {B} g z y a e i =
+        ap (λ (k : ℕ). inserted k y a) spot-is
+        ∙ ap (λ (b : B). inserted (spotOf new vs) b a) i
+        ∙ ap (inserted (spotOf new vs) (g new)) e
+        ∙ laid-put g z 32 vs (spotOf new vs) new (spot-most new vs) room
+        ∙ ap (laid 32 g z) (sym (placed-put new vs))
+
     admit-filled :
         Filled (inserted (spotIn (described d) n p ids) (written new) p) (inserted (spotIn (described d) n p ids) (d .tunnel) ids) (n + 1)
         (placed new vs)
     admit-filled =
         record {
-          places =
-              ap (λ (k : ℕ). inserted k (written new) p) spot-is
-              ∙ ap (inserted (spotOf new vs) (written new)) (f .places)
-              ∙ laid-put written (written noTenant) 32 vs (spotOf new vs) new (spot-most new vs) room
-              ∙ ap placesOf (sym (placed-put new vs));
-          tunnels =
-              ap (λ (k : ℕ). inserted k (d .tunnel) ids) spot-is
-              ∙ ap (inserted (spotOf new vs) (d .tunnel)) (f .tunnels)
-              ∙ laid-put tunnelOf (tunnel nobody) 32 vs (spotOf new vs) new (spot-most new vs) room
-              ∙ ap idsOf (sym (placed-put new vs));
+          places = put-filled written (written noTenant) (written new) p (f .places) refl;
+          tunnels = put-filled tunnelOf (tunnel nobody) (d .tunnel) ids (f .tunnels) refl;
           count = omega (arith, f .count, length-placed new vs);
         }
 
   module _ (t at : ℕ) (e : at ≡ place t vs) (h : place t vs < length vs) where
+    -- .. and what it has of the one removed taken out
+    cut-filled : {B : Type 0} (g : Tenant → B) (z : B) (a : List B) → a ≡ laid 32 g z vs
+        → removed at z a ≡ laid 32 g z (keep (λ v. not (named t v)) vs)
+    cut-filled g z a i =
+        ap (λ (k : ℕ). removed k z a) e
+        ∙ ap (removed (place t vs) z) i
+        ∙ laid-cut g z 32 vs (place t vs) h (r .few)
+        ∙ ap (laid 32 g z) (sym (removed-cut t vs (r .distinct) h))
+
     remove-filled : Filled (removed at (written noTenant) p) (removed at (tunnel nobody) ids) (n - 1) (keep (λ v. not (named t v)) vs)
     remove-filled =
         record {
-          places =
-              ap (λ (k : ℕ). removed k (written noTenant) p) e
-              ∙ ap (removed (place t vs) (written noTenant)) (f .places)
-              ∙ laid-cut written (written noTenant) 32 vs (place t vs) h (r .few)
-              ∙ ap placesOf (sym (removed-cut t vs (r .distinct) h));
-          tunnels =
-              ap (λ (k : ℕ). removed k (tunnel nobody) ids) e
-              ∙ ap (removed (place t vs) (tunnel nobody)) (f .tunnels)
-              ∙ laid-cut tunnelOf (tunnel nobody) 32 vs (place t vs) h (r .few)
-              ∙ ap idsOf (sym (removed-cut t vs (r .distinct) h));
+          places = cut-filled written (written noTenant) p (f .places);
+          tunnels = cut-filled tunnelOf (tunnel nobody) ids (f .tunnels);
           count = omega (arith, f .count, ap length (removed-cut t vs (r .distinct) h), cut-length (place t vs) vs h);
         }
       where
@@ -180,17 +187,24 @@ module _ (k : Card) (now : ℕ) where
       go (Remove t) m s = keep-ranked (λ v. not (named (t .0) v)) (afterReturn k now) s
       go Tick m s = s
 
--- the table: its places, its identifiers and its count; and who is remembered beside it
+-- the table: its places, its identifiers and its count; and beside it who is remembered, and the times that step 2 reported
 pub record Table : Type 0 where
   pub places : List Vcpu
   pub ids : List Tunnel
   pub n : ℕ
   pub memory : Memory
+  pub next : List Moment
 
 -- what each change makes of it; `at` is the place that the call names, and `z` what a read past the end would give
 abbrev marked : Bool → ℕ → Vcpu → Table → Table
 marked b at z x =
-    record { places = set (x .places) at (runnableAs (getD (x .places) at z) b); ids = x .ids; n = x .n; memory = x .memory }
+    record {
+      places = set (x .places) at (runnableAs (getD (x .places) at z) b);
+      ids = x .ids;
+      n = x .n;
+      memory = x .memory;
+      next = x .next;
+    }
 
 abbrev pub changedTable : ℕ → Change → ℕ → Vcpu → Table → Table
 changedTable now (Admit d) at z x =
@@ -199,6 +213,7 @@ changedTable now (Admit d) at z x =
       ids = inserted (spotIn (described d) (x .n) (x .places) (x .ids)) (d .tunnel) (x .ids);
       n = x .n + 1;
       memory = x .memory;
+      next = inserted (spotIn (described d) (x .n) (x .places) (x .ids)) (moment never) (x .next);
     }
 changedTable now (Wake t) at z x = marked true at z x
 changedTable now (Block t) at z x = marked false at z x
@@ -208,6 +223,7 @@ changedTable now (Remove t) at z x =
       ids = removed at (tunnel nobody) (x .ids);
       n = x .n - 1;
       memory = leavingOf (x .memory) t (getD (x .places) at z);
+      next = removed at (moment never) (x .next);
     }
 changedTable now Tick at z x = x
 
@@ -225,9 +241,10 @@ Changeable (Block t) at z x = at < 32
 Changeable (Remove t) at z x = Removable at z x
 Changeable Tick at z x = Unit
 
-pub record FilledBy (x : Table) (vs : List Tenant) (rs : List Remembered) : Type 0 where
+pub record FilledBy (x : Table) (vs : List Tenant) (rs : List Remembered) (ts : List Told) : Type 0 where
   pub table : Filled (x .places) (x .ids) (x .n) vs
   pub memory : x .memory ≡ memoryOf rs
+  pub next : x .next ≡ timesOf ts vs
 
 -- an accepted call, after steps 1 and 2
 pub record Stepped (k : Card) (now : ℕ) : Type 0 where
@@ -237,7 +254,8 @@ pub record Stepped (k : Card) (now : ℕ) : Type 0 where
   pub sound : All (Sound now) (afterReturn k now)
 
 -- .. finds its place, and leaves the rules' lists after the change, written
-module _ (k : Card) (now : ℕ) (l : Stepped k now) (x : Table) (f : FilledBy x (afterReturn k now) (kept now (k .remembered))) where
+module _ (k : Card) (now : ℕ) (l : Stepped k now) (x : Table)
+    (f : FilledBy x (afterReturn k now) (kept now (k .remembered)) (toldBy k now)) where
   abbrev vs : List Tenant
   vs = afterReturn k now
 
@@ -267,7 +285,7 @@ module _ (k : Card) (now : ℕ) (l : Stepped k now) (x : Table) (f : FilledBy x 
     at-small : at < 32
     at-small = omega (arith, small, f .table .count, r .few)
 
-    marks : (b : Bool) (z : Vcpu) → FilledBy (marked b at z x) (toNamed t (setRunnable b) vs) (rs ++ [])
+    marks : (b : Bool) (z : Vcpu) → FilledBy (marked b at z x) (toNamed t (setRunnable b) vs) (rs ++ []) (toldBy k now)
     marks b z =
         record {
           table =
@@ -275,6 +293,7 @@ module _ (k : Card) (now : ℕ) (l : Stepped k now) (x : Table) (f : FilledBy x 
               (sym (ap (λ (v : Vcpu). runnableAs v b) (read z) ∙ mark-written there-now b))
               (mark-filled (x .places) (x .ids) (x .n) vs (f .table) r t at (at-place t at e m) (named-place k now t m) b z);
           memory = f .memory ∙ ap memoryOf (sym (append-nil rs));
+          next = f .next ∙ heard-marked (toldBy k now) t b vs;
         }
 
     room-left : length rs < 32
@@ -325,11 +344,15 @@ module _ (k : Card) (now : ℕ) (l : Stepped k now) (x : Table) (f : FilledBy x 
 
   pub change-filled : (change : Change) (at : ℕ) (z : Vcpu) → at ≡ namedAt (idsOf (k .vcpus)) change
       → callRows (k .vcpus) rs (asked change) ≡ none
-      → FilledBy (changedTable now change at z x) (changeRule now (asked change) vs) (rs ++ leaving (asked change) vs)
+      → FilledBy (changedTable now change at z x) (changeRule now (asked change) vs) (rs ++ leaving (asked change) vs) (toldBy k now)
   change-filled (Admit d) at z e m =
+      let q = admits-after k now rs d m in
       record {
-        table = admit-filled (x .places) (x .ids) (x .n) vs (f .table) r now rs d (admits-after k now rs d m);
+        table = admit-filled (x .places) (x .ids) (x .n) vs (f .table) r now rs d q;
         memory = f .memory ∙ ap memoryOf (sym (append-nil rs));
+        next =
+            put-filled (x .places) (x .ids) (x .n) vs (f .table) r now rs d q (saidOf (toldBy k now)) (moment never) (moment never)
+            (x .next) (f .next) (sym (heard-new now (afterCharge k now) (admitted now (described d)) (q .not-there)));
       }
   change-filled (Wake t) at z e m = marks (t .0) at e m true z
   change-filled (Block t) at z e m = marks (t .0) at e m false z
@@ -338,5 +361,8 @@ module _ (k : Card) (now : ℕ) (l : Stepped k now) (x : Table) (f : FilledBy x 
         table =
             remove-filled (x .places) (x .ids) (x .n) vs (f .table) r (t .0) at (at-place (t .0) at e m) (named-place k now (t .0) m);
         memory = left t at e m z;
+        next =
+            cut-filled (x .places) (x .ids) (x .n) vs (f .table) r (t .0) at (at-place (t .0) at e m) (named-place k now (t .0) m)
+            (saidOf (toldBy k now)) (moment never) (x .next) (f .next);
       }
-  change-filled Tick at z e m = record { table = f .table; memory = f .memory ∙ ap memoryOf (sym (append-nil rs)) }
+  change-filled Tick at z e m = record { table = f .table; memory = f .memory ∙ ap memoryOf (sym (append-nil rs)); next = f .next }

@@ -1,13 +1,13 @@
 -- One step of each loop over the table: a search looks one place further, a shift moves one place more.
 -- Assumes nothing.
 use Prim.Native.Nat.{ℕ, zero, suc, _+_, _-_, _≤_, _<_}
-use mathlib.Core.Path.{_≡_, refl, ap}
+use mathlib.Core.Path.{_≡_, refl, ap, sym, _∙_, subst}
 use mathlib.Core.Bool.{true, false}
 use mathlib.Core.List.{List, [], _∷_, _++_, append-assoc, append-nil}
 use native.Mathlib.Omega.{arith}
 use native.Mathlib.Numerals.{add-one}
 use lib.Dec.{eqb}
-use lib.ListN.{length, take, drop, getD, set, drop-of-length-le}
+use lib.ListN.{length, take, drop, getD, set, length-set, drop-of-length-le}
 use lib.Seq.{drop-cons, take-suc-set, drop-set-lt, take-all, set-split}
 use Rattle.units.specs.Units.{tunnel}
 use Rattle.units.specs.declared.Tunnel.{Tunnel}
@@ -79,6 +79,32 @@ module _ {A : Type 0} where
 
   pub remove-end : (l : List A) (k : ℕ) (z : A) → length l ≡ suc k → set l k z ≡ take k l ++ (drop (suc k) l ++ z ∷ [])
   remove-end l k z h = rw (set-split l k z (omega arith), drop-of-length-le l {i = suc k} (omega arith))
+
+-- the shifts of an array of 32, whatever it holds: at the loop's head, one turn of it, and its end
+module _ {A : Type 0} where
+  abbrev pub Inserting : ℕ → A → List A → List A → A → ℕ → Type 0
+  Inserting at y₀ l q y k = (k ≤ 32) × (length q ≡ 32) × (take k q ++ inserted 0 y (drop k q) ≡ inserted at y₀ l)
+
+  pub insert-again : (at : ℕ) (y₀ : A) (l q : List A) (y d : A) (k : ℕ) → Inserting at y₀ l q y k → k < 32
+      → Inserting at y₀ l (set q k y) (getD q k d) (k + 1)
+  insert-again at y₀ l q y d k s h =
+      (omega arith, length-set q k y ∙ s .1, insert-step q k y d (omega (arith, s .1)) ∙ s .2)
+
+  pub insert-ends : (at : ℕ) (y₀ : A) (l q : List A) (y : A) (k : ℕ) → Inserting at y₀ l q y k → 32 ≤ k → q ≡ inserted at y₀ l
+  insert-ends at y₀ l q y k s h = sym (insert-end q k y (omega (arith, s .1))) ∙ s .2
+
+  abbrev pub Removing : ℕ → A → List A → List A → ℕ → Type 0
+  Removing at z l q k = (k < 32) × (length q ≡ 32) × (take k q ++ (drop (suc k) q ++ z ∷ []) ≡ removed at z l)
+
+  pub remove-again : (at : ℕ) (z : A) (l q : List A) (d : A) (k : ℕ) → Removing at z l q k → k < 31
+      → Removing at z l (set q k (getD q (k + 1) d)) (k + 1)
+  remove-again at z l q d k s h =
+      (omega arith, length-set q k (getD q (k + 1) d) ∙ s .1, remove-step q k z d (omega (arith, s .1)) ∙ s .2)
+
+  pub remove-ends : (at : ℕ) (z : A) (l q : List A) (k : ℕ) → Removing at z l q k → 31 ≤ k → set q 31 z ≡ removed at z l
+  remove-ends at z l q k s h =
+      let e : k ≡ 31 = omega (arith, s .0) in
+      remove-end q 31 z (s .1) ∙ subst (λ (j : ℕ). take j q ++ (drop (suc j) q ++ z ∷ []) ≡ removed at z l) e (s .2)
 
 pub spot-start : (d : Terms) (n : ℕ) (vs : List Vcpu) (ts : List Tunnel) → spotIn d n vs ts ≡ 0 + spotIn d (n - 0) (drop 0 vs) (drop 0 ts)
 spot-start d n vs ts = let e : n - 0 ≡ n = omega arith in rw e (omega arith)

@@ -1,34 +1,42 @@
 -- The return step's loop over the table: what holds at its head, what a turn asks and keeps, and what it leaves.
 -- Assumes nothing.
-use Prim.Native.Nat.{ℕ, zero, suc, _+_, _≤_, _<_}
+use Prim.Native.Nat.{ℕ, zero, suc, _+_, _*_, _≤_, _<_}
 use mathlib.Core.Path.{_≡_, refl, ap, sym, _∙_, subst}
 use mathlib.Core.Bool.{Bool, true, false, cond, not}
-use mathlib.Core.List.{List, [], _∷_, map}
+use mathlib.Core.List.{List, [], _∷_, _++_, map}
 use mathlib.Core.Option.{Option, none, some}
 use native.Mathlib.Omega.{arith}
 use native.Mathlib.Numerals.{add-one}
 use lib.Dec.{leb, ltb}
-use lib.ListN.{length, getD, set}
-use lib.Seq.{set-getD}
+use lib.ListN.{length, take, getD, set, replicate}
+use lib.Seq.{set-getD, take-suc, take-all, length-take-le}
 use borrow.Author.Tests.{ltb-true, not-false}
-use Rattle.units.specs.Units.{tunnel}
+use Rattle.units.specs.Units.{moment, amount, tunnel}
 use Rattle.units.specs.declared.Moment.{Moment}
 use Rattle.units.specs.declared.Tunnel.{Tunnel}
 use Rattle.rules.specs.Lists.{All, sum}
 use Rattle.rules.specs.Limits.{largestTime}
 use Rattle.rules.specs.Vcpu.{Vcpu as Tenant}
-use Rattle.rules.specs.Return.{returned, refill, refilled, broughtIn, bring}
+use Rattle.rules.specs.Vcpu.{Description as Terms}
+use Rattle.rules.specs.Return.{brought, returned, refill, refilled, broughtIn, bring}
+use Rattle.rules.specs.Told.{adds, tells, tell}
+use Rattle.rules.specs.Told.{total as totalTold}
+use Rattle.rules.proofs.Lists.{all-every}
 use Rattle.rules.proofs.Tests.{clash}
 use Rattle.rules.proofs.ThreeKinds.{terms-returned}
+use Rattle.rules.proofs.Brought.{refill-more, usable-told, told-most}
 use Rattle.turns.specs.declared.Vcpu.{Vcpu}
+use Rattle.turns.specs.declared.Told.{Told}
+use Rattle.turns.specs.declared.Total.{Total}
 use Rattle.turns.specs.Laid.{laid}
-use Rattle.turns.specs.Written.{nobody, tunnelOf, written, noTenant, tenants}
+use Rattle.turns.specs.Written.{never, nobody, tunnelOf, written, noTenant, tenants}
 use Rattle.turns.proofs.Invariant.{Fits}
-use Rattle.turns.specs.Steps.{hasQueue, headOf, bare, Returnable}
-use Rattle.turns.proofs.Laid.{laid-get, laid-set}
-use Rattle.turns.proofs.Written.{under, Formed, queue, refills, kind-queue, shown-written}
+use Rattle.turns.specs.Steps.{hasQueue, headOf, bare, restsOf, broughtTo, totalOf, Returnable}
+use Rattle.turns.proofs.Laid.{laid-get, laid-set, laid-end, laid-map}
+use Rattle.turns.proofs.Written.{under, Formed, queue, refills, kind-queue, kind-left, shown-written}
 use Rattle.turns.proofs.Return.{head-written, returned-none}
 use Rattle.turns.proofs.Ranked.{all-get}
+use Rattle.turns.proofs.Rows.{idsOf}
 use Rattle.turns.proofs.Stage.{placesOf, Filled, filled-tenants, all-show}
 
 module _ {A : Type 0} (f : A → A) where
@@ -57,18 +65,35 @@ module _ {A : Type 0} (f : A → A) where
   upto-all [] = refl
   upto-all (x ∷ l) = ap (λ (r : List A). f x ∷ r) (upto-all l)
 
--- at the loop's head
-pub record Sweeping (now : Moment) (ids : List Tunnel) (n : ℕ) (p₀ p : List Vcpu) (i : ℕ) : Type 0 where
+-- the time that the return step reports of a tenant, as the code has it
+abbrev pub headThen : ℕ → Tenant → Moment
+headThen now x = moment (headOf (written (returned now x)))
+
+-- at the loop's head; the first i have reported
+pub record Sweeping (now : Moment) (ids : List Tunnel) (n : ℕ) (p₀ p : List Vcpu) (next : List Moment) (total : Total) (i : ℕ)
+    : Type 0 where
   pub filled : Filled p₀ ids n (tenants n ids p₀)
   pub fits : All Fits (tenants n ids p₀)
   pub time : now .0 ≤ largestTime
   pub done : p ≡ placesOf (upto (returned (now .0)) i (tenants n ids p₀))
+  pub heard : next ≡ laid 32 (headThen (now .0)) (moment never) (take i (tenants n ids p₀))
+  pub sums : total .ticks .0 ≡ totalTold (tell (now .0) (take i (tenants n ids p₀)))
+  pub small : total .ticks .0 ≤ i * 1000000
   pub most : i ≤ n
   pub few : n ≤ 32
 
+total-end : (now : ℕ) (l : List Tenant) (x : Tenant) → totalTold (tell now (l ++ x ∷ [])) ≡ totalTold (tell now l) + tells now x .ticks
+total-end now [] x = omega arith
+total-end now (v ∷ l) x = omega (arith, total-end now l x)
+
+blank-times : (now k : ℕ) → replicate k (moment never) ≡ laid k (headThen now) (moment never) []
+unfolding laid
+blank-times now zero = refl
+blank-times now (suc k) = ap (λ (r : List Moment). moment never ∷ r) (blank-times now k)
+
 pub sweep-start : (now : Moment) (ids : List Tunnel) (n : ℕ) (p : List Vcpu) (vs : List Tenant) → now .0 ≤ largestTime → n ≤ 32
     → Filled p ids n vs
-    → All Fits vs → Sweeping now ids n p p 0
+    → All Fits vs → Sweeping now ids n p p (replicate 32 (moment never)) (totalOf 0) 0
 sweep-start now ids n p vs h l f r =
     let e : tenants n ids p ≡ vs = filled-tenants p ids n vs (omega (arith, f .count)) (all-show vs r) f in
     record {
@@ -76,6 +101,9 @@ sweep-start now ids n p vs h l f r =
       fits = subst (All Fits) (sym e) r;
       time = h;
       done = f .places ∙ ap placesOf (sym e);
+      heard = blank-times (now .0) 32;
+      sums = refl;
+      small = omega arith;
       most = omega arith;
       few = l;
     }
@@ -102,6 +130,7 @@ module _ (now : Moment) (x : Tenant) (h : now .0 ≤ largestTime) (r : Fits x) w
         fits = subst (λ (v : Tenant). v .usable + sum (λ e. e .amount) (v .pending) < 4294967296) (sym bared) (omega
             (arith, r .most, r .range .capacity-high, r .range .period-high));
         no-queue = λ n. subst (λ (v : Tenant). v .pending ≡ []) (sym bared) (empty (r .shows .1) n);
+        fewer = λ n. rw (kind-left (x .terms) (x .runnable) (x .terms .capacity)) (refill-more x (omega (arith, r .most)) (r .polls));
         period = r .range .period-low;
         time = omega (arith, r .range .period-high);
       }
@@ -121,15 +150,89 @@ module _ (now : Moment) (x : Tenant) (h : now .0 ≤ largestTime) (r : Fits x) w
   returned-bare : written (returned (now .0) (bare (written x))) ≡ written (returned (now .0) x)
   returned-bare = ap (λ (v : Tenant). written (returned (now .0) v)) bared ∙ untagged (x .boundary)
 
+  -- by its kind
+  no-boundary : Formed x → x .terms .kind ≡ 0 → x .boundary ≡ none
+  no-boundary (queue k e) z = e
+  no-boundary (refills k h p b e) z = absurd (k z)
+
+  its-boundary : Formed x → (x .terms .kind ≡ 0 → ⊥) → (x .pending ≡ []) × (b : ℕ) × (x .boundary ≡ some b)
+  its-boundary (queue k e) n = absurd (n k)
+  its-boundary (refills k h p b e) n = (p, b, e)
+
+  gained : returned (now .0) x .usable ≡ x .usable + tells (now .0) x .ticks
+  gained =
+      usable-told (now .0) x (no-boundary (r .shows .1)) (its-boundary (r .shows .1))
+      (λ n. refill-more x (omega (arith, r .most)) (r .polls))
+
+  told-small : tells (now .0) x .ticks ≤ 1000000
+  told-small =
+      omega (
+        arith,
+        told-most (now .0) x (no-boundary (r .shows .1)) (its-boundary (r .shows .1)) (r .most),
+        r .range .capacity-high,
+        r .range .period-high,
+      )
+
+  -- its identifier does not matter
+  told-bare : tells (now .0) (bare (written x)) .ticks ≡ tells (now .0) x .ticks
+  told-bare = ap (λ (v : Tenant). tells (now .0) v .ticks) bared ∙ go (x .boundary)
+    where
+      go : (o : Option ℕ)
+          → brought (now .0) (x .pending) + adds (now .0) o (under 0 x) ≡ brought (now .0) (x .pending) + adds (now .0) o x
+      go none = refl
+      go (some b) = refl
+
   rests : not (ltb (now .0) (headOf (written x))) ≡ false → returned (now .0) x ≡ x
   rests e =
       returned-none (now .0) x (omega arith) (r .shows .1)
       (subst (λ (n : ℕ). now .0 < n) (head-written x)
       (ltb-true (now .0) (headOf (written x)) (not-false (ltb (now .0) (headOf (written x))) e)))
 
-module _ (now : Moment) (ids : List Tunnel) (n : ℕ) (p₀ p : List Vcpu) (i : ℕ) (s : Sweeping now ids n p₀ p i) (h : i < n) (z : Vcpu) where
+-- at a place that is read; `z` is what a read past the end would give
+pub record Visit : Type 0 where
+  pub now : Moment
+  pub ids : List Tunnel
+  pub n : ℕ
+  pub p₀ : List Vcpu
+  pub p : List Vcpu
+  pub next : List Moment
+  pub total : Total
+  pub i : ℕ
+  pub inv : Sweeping now ids n p₀ p next total i
+  pub below : i < n
+  pub z : Vcpu
+
+module _ (t : Visit) where
+  abbrev now : Moment
+  now = t .now
+
+  abbrev ids : List Tunnel
+  ids = t .ids
+
+  abbrev n : ℕ
+  n = t .n
+
+  abbrev p₀ : List Vcpu
+  p₀ = t .p₀
+
+  abbrev p : List Vcpu
+  p = t .p
+
+  abbrev i : ℕ
+  i = t .i
+
+  abbrev z : Vcpu
+  z = t .z
+
+  abbrev s : Sweeping now ids n p₀ p (t .next) (t .total) i
+  s = t .inv
+
+  -- the tenant there
+  abbrev x : Tenant
+  x = getD (tenants n ids p₀) i noTenant
+
   inside : i < length (tenants n ids p₀)
-  inside = omega (arith, s .filled .count)
+  inside = omega (arith, s .filled .count, t .below)
 
   long : length (upto (returned (now .0)) i (tenants n ids p₀)) ≤ 32
   long = omega (arith, upto-length (returned (now .0)) i (tenants n ids p₀), s .filled .count, s .few)
@@ -149,60 +252,120 @@ module _ (now : Moment) (ids : List Tunnel) (n : ℕ) (p₀ p : List Vcpu) (i : 
   pub sweep-asks : Returnable (getD p i z) now
   sweep-asks = subst (λ (v : Vcpu). Returnable v now) (sym read) (returnable now (getD (tenants n ids p₀) i noTenant) (s .time) sound)
 
-  next : placesOf (upto (returned (now .0)) (i + 1) (tenants n ids p₀))
+  next-places : placesOf (upto (returned (now .0)) (i + 1) (tenants n ids p₀))
       ≡ set p i (written (returned (now .0) (getD (tenants n ids p₀) i noTenant)))
-  next =
+  next-places =
       ap (λ (k : ℕ). placesOf (upto (returned (now .0)) k (tenants n ids p₀))) (add-one i)
       ∙ ap placesOf (sym (upto-set (returned (now .0)) i (tenants n ids p₀) noTenant inside))
       ∙ sym (laid-set written (written noTenant) 32 (upto (returned (now .0)) i (tenants n ids p₀)) i (returned (now .0) (getD
       (tenants n ids p₀) i noTenant)) reaches long)
       ∙ ap (λ (q : List Vcpu). set q i (written (returned (now .0) (getD (tenants n ids p₀) i noTenant)))) (sym (s .done))
 
-  on : (q : List Vcpu) → q ≡ set p i (written (returned (now .0) (getD (tenants n ids p₀) i noTenant))) → Sweeping now ids n p₀ q (i + 1)
-  on q e = record { filled = s .filled; fits = s .fits; time = s .time; done = e ∙ sym next; most = omega arith; few = s .few }
+  far : length (take i (tenants n ids p₀)) ≡ i
+  far = length-take-le i (tenants n ids p₀) (omega (arith, inside))
 
-  pub sweep-due : Sweeping now ids n p₀ (set p i (written (returned (now .0) (bare (getD p i z))))) (i + 1)
+  one-further : take (i + 1) (tenants n ids p₀) ≡ take i (tenants n ids p₀) ++ x ∷ []
+  one-further = ap (λ (j : ℕ). take j (tenants n ids p₀)) (add-one i) ∙ take-suc (tenants n ids p₀) i noTenant inside
+
+  -- the report is the rules', of the tenant there
+  pub record Reported (q : List Vcpu) (r : Told) : Type 0 where
+    placed : q ≡ set p i (written (returned (now .0) x))
+    ticks : r .ticks .0 ≡ tells (now .0) x .ticks
+    time : r .next ≡ headThen (now .0) x
+
+  pub sweep-fits : (q : List Vcpu) (r : Told) → Reported q r → t .total .ticks .0 + r .ticks .0 < 4294967296
+  sweep-fits q r k = omega (arith, s .small, s .few, t .below, k .ticks, told-small now x (s .time) sound)
+
+  pub sweep-on : (q : List Vcpu) (r : Told) → Reported q r
+      → Sweeping now ids n p₀ q (set (t .next) i (r .next)) (totalOf (t .total .ticks .0 + r .ticks .0)) (i + 1)
+  sweep-on q r k =
+      record {
+        filled = s .filled;
+        fits = s .fits;
+        time = s .time;
+        done = k .placed ∙ sym next-places;
+        heard =
+            ap (λ (m : Moment). set (t .next) i m) (k .time)
+            ∙ ap (λ (l : List Moment). set l i (headThen (now .0) x)) (s .heard)
+            ∙ ap (λ (j : ℕ). set (laid 32 (headThen (now .0)) (moment never) (take i (tenants n ids p₀))) j (headThen (now .0) x)) (sym far)
+            ∙ laid-end (headThen (now .0)) (moment never) 32 (take i (tenants n ids p₀)) x (omega (arith, far, s .few))
+            ∙ ap (laid 32 (headThen (now .0)) (moment never)) (sym one-further);
+        sums =
+            omega (
+              arith,
+              s .sums,
+              k .ticks,
+              ap (λ (l : List Tenant). totalTold (tell (now .0) l)) one-further,
+              total-end (now .0) (take i (tenants n ids p₀)) x,
+            );
+        small = omega (arith, s .small, k .ticks, told-small now x (s .time) sound);
+        most = omega (arith, t .below);
+        few = s .few;
+      }
+
+  pub sweep-due : Reported (set p i (written (returned (now .0) (bare (getD p i z))))) (broughtTo (now .0) (bare (getD p i z)) .told)
   sweep-due =
-      on (set p i (written (returned (now .0) (bare (getD p i z)))))
-      (ap (λ (v : Vcpu). set p i (written (returned (now .0) (bare v)))) read
-      ∙ ap (set p i) (returned-bare now (getD (tenants n ids p₀) i noTenant)
-      (s .time) sound))
+      record {
+        placed = ap (set p i) there;
+        ticks = ap (λ (v : Vcpu). tells (now .0) (bare v) .ticks) read ∙ told-bare now x (s .time) sound;
+        time = ap (λ (v : Vcpu). moment (headOf v)) there;
+      }
+    where
+      there : written (returned (now .0) (bare (getD p i z))) ≡ written (returned (now .0) x)
+      there = ap (λ (v : Vcpu). written (returned (now .0) (bare v))) read ∙ returned-bare now x (s .time) sound
 
-  pub sweep-rests : not (ltb (now .0) (headOf (getD p i z))) ≡ false → Sweeping now ids n p₀ p (i + 1)
+  pub sweep-rests : not (ltb (now .0) (headOf (getD p i z))) ≡ false → Reported p (restsOf (getD p i z))
   sweep-rests e =
-      on p
-      (sym (set-getD p i z)
-      ∙ ap (set p i) (read ∙ ap written
-      (sym (rests now (getD (tenants n ids p₀) i noTenant) (s .time) sound (ap (λ (v : Vcpu). not (ltb (now .0)
-      (headOf v))) (sym read) ∙ e)))))
+      record {
+        placed = sym (set-getD p i z) ∙ ap (set p i) there;
+        ticks = omega (arith, gained now x (s .time) sound, ap (λ (v : Tenant). v .usable) as-it-was);
+        time = ap (λ (v : Vcpu). moment (headOf v)) there;
+      }
+    where
+      as-it-was : returned (now .0) x ≡ x
+      as-it-was = rests now x (s .time) sound (ap (λ (v : Vcpu). not (ltb (now .0) (headOf v))) (sym read) ∙ e)
 
-ids-kept : (now k : ℕ) (z : Tunnel) (vs : List Tenant) → laid k tunnelOf z (bring now vs) ≡ laid k tunnelOf z vs
-unfolding laid
-ids-kept now zero z vs = refl
-ids-kept now (suc k) z [] = refl
-ids-kept now (suc k) z (v ∷ vs) = rw (terms-returned now v) (ap (λ (r : List Tunnel). tunnelOf v ∷ r) (ids-kept now k z vs))
+      there : getD p i z ≡ written (returned (now .0) x)
+      there = read ∙ ap written (sym as-it-was)
+
+ids-kept : (now : ℕ) (vs : List Tenant) → idsOf (bring now vs) ≡ idsOf vs
+ids-kept now vs =
+    sym (laid-map tunnelOf tunnelOf (returned now) (tunnel nobody) 32 vs
+    (all-every (λ v. ap (λ (d : Terms). tunnel (d .tunnel)) (sym (terms-returned now v))) vs))
 
 bring-length : (now : ℕ) (vs : List Tenant) → length (bring now vs) ≡ length vs
 bring-length now [] = refl
 bring-length now (v ∷ vs) = ap suc (bring-length now vs)
 
--- when it is done
-module _ (now : Moment) (ids : List Tunnel) (n : ℕ) (p₀ p : List Vcpu) (i : ℕ) (s : Sweeping now ids n p₀ p i) (h : n ≤ i)
-    (vs : List Tenant)
-    (f : Filled p₀ ids n vs) (r : All Fits vs) where
-  all : tenants n ids p₀ ≡ vs
-  all = filled-tenants p₀ ids n vs (omega (arith, f .count, s .few)) (all-show vs r) f
+-- when it is done: what has come, the times reported and their total
+pub record Swept (now : Moment) (ids : List Tunnel) (n : ℕ) (p : List Vcpu) (next : List Moment) (total : Total) (vs : List Tenant)
+    : Type 0 where
+  pub filled : Filled p ids n (bring (now .0) vs)
+  pub heard : next ≡ laid 32 (headThen (now .0)) (moment never) vs
+  pub sums : total .ticks .0 ≡ totalTold (tell (now .0) vs)
 
-  ended : i ≡ length (tenants n ids p₀)
-  ended = omega (arith, s .most, s .filled .count)
-
-  pub sweep-filled : Filled p ids n (bring (now .0) vs)
-  sweep-filled =
-      record {
+pub sweep-ends : (now : Moment) (ids : List Tunnel) (n : ℕ) (p₀ p : List Vcpu) (next : List Moment) (total : Total) (i : ℕ)
+    → Sweeping now ids n p₀ p next total i → n ≤ i → (vs : List Tenant) → Filled p₀ ids n vs → All Fits vs
+    → Swept now ids n p next total vs
+sweep-ends now ids n p₀ p next total i s h vs f r =
+    record {
+      filled = record {
         places =
             s .done
             ∙ ap (λ (k : ℕ). placesOf (upto (returned (now .0)) k (tenants n ids p₀))) ended
             ∙ ap placesOf (upto-all (returned (now .0)) (tenants n ids p₀) ∙ ap (bring (now .0)) all);
-        tunnels = f .tunnels ∙ sym (ids-kept (now .0) 32 (tunnel nobody) vs);
+        tunnels = f .tunnels ∙ sym (ids-kept (now .0) vs);
         count = f .count ∙ sym (bring-length (now .0) vs);
-      }
+      };
+      heard = s .heard ∙ ap (laid 32 (headThen (now .0)) (moment never)) reported;
+      sums = s .sums ∙ ap (λ (l : List Tenant). totalTold (tell (now .0) l)) reported;
+    }
+  where
+    all : tenants n ids p₀ ≡ vs
+    all = filled-tenants p₀ ids n vs (omega (arith, f .count, s .few)) (all-show vs r) f
+
+    ended : i ≡ length (tenants n ids p₀)
+    ended = omega (arith, s .most, s .filled .count)
+
+    reported : take i (tenants n ids p₀) ≡ vs
+    reported = take-all i (tenants n ids p₀) (omega (arith, ended)) ∙ all

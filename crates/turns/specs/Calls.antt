@@ -10,7 +10,7 @@ use Rattle.rules.specs.Vcpu.{Vcpu as Tenant}
 use Rattle.rules.specs.Change.{admit, wake, block, remove, tick}
 use Rattle.rules.specs.Change.{Change as Asked}
 use Rattle.rules.specs.Turn.{Call, ok, refused, turn}
-use Rattle.rules.specs.Turn.{Report as Told}
+use Rattle.rules.specs.Turn.{Report as ReportRule}
 use Rattle.rules.specs.Turn.{Reply as Said}
 use Rattle.rules.specs.Turn.{Answer as Given}
 use Rattle.turns.specs.declared.Description.{Description}
@@ -57,7 +57,13 @@ paperTimer (At m) = some (m .0)
 
 abbrev pub paperReply : Reply → Said
 paperReply (Done r) =
-    ok (record { time = r .time .0; run = paperHolder (r .run); usable = r .usable .0; timer = paperTimer (r .timer) })
+    ok (record {
+      time = r .time .0;
+      run = paperHolder (r .run);
+      usable = r .usable .0;
+      timer = paperTimer (r .timer);
+      brought = r .brought .0;
+    })
 paperReply (No x) = refused (record { number = x .number; detail = x .detail })
 
 -- the identifier is on the card
@@ -81,9 +87,15 @@ abbrev pub timerSaid : Option ℕ → Timer
 timerSaid none = Unset
 timerSaid (some t) = At (moment t)
 
-abbrev pub reportSaid : Told → Report
+abbrev pub reportSaid : ReportRule → Report
 reportSaid r =
-    record { time = moment (r .time); run = holderSaid (r .run); usable = amount (r .usable); timer = timerSaid (r .timer) }
+    record {
+      time = moment (r .time);
+      run = holderSaid (r .run);
+      usable = amount (r .usable);
+      timer = timerSaid (r .timer);
+      brought = amount (r .brought);
+    }
 
 abbrev pub replySaid : Said → Reply
 replySaid (ok r) = Done (reportSaid r)

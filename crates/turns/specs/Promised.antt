@@ -12,6 +12,7 @@ use Rattle.rules.specs.Turn.{report as reportOf}
 use Rattle.rules.specs.Meaning.{Meaning}
 use Rattle.rules.specs.Rows.{First, NoRow}
 use Rattle.rules.specs.Budgets.{Budgets}
+use Rattle.rules.specs.Brought.{Brings}
 use Rattle.rules.specs.Marks.{Marks}
 use Rattle.rules.specs.Leaving.{Leaving}
 use Rattle.rules.specs.History.{Exchange, after, heard}
@@ -44,10 +45,11 @@ exchanges (a ∷ calls) =
     record { call = callOf (a .now) (a .change); reply = paperReply ((turned (made calls) (a .now) (a .change)) .reply) }
     ∷ exchanges calls
 
--- an accepted call: steps 1 to 5, and the report of the card after them
-pub record Accepted (c : Core) (now : Moment) (change : Change) (a : Answer) : Type 0 where
+-- an accepted call: steps 1 to 5, and the report `r` of the card after them, and of what step 2 brought
+pub record Accepted (c : Core) (now : Moment) (change : Change) (a : Answer) (r : Report) : Type 0 where
   pub five-steps : card (a .core) ≡ accepted (card c) (callOf now change)
-  pub reports : paperReply (a .reply) ≡ ok (reportOf (card (a .core)))
+  pub reports : paperReply (a .reply) ≡ ok (reportOf (r .brought .0) (card (a .core)))
+  pub brings : Brings (card c) (callOf now change) (r .brought .0)
   pub at-now : card (a .core) .last ≡ now .0
   -- what steps 1 and 2, and step 3, mean; what steps 4 and 5 mean is in Meaning
   pub budgets : Budgets (card c) (callOf now change) (card (a .core) .vcpus)
@@ -62,7 +64,7 @@ pub record Next (c : Core) (now : Moment) (change : Change) (a : Answer) : Type 
   pub hands-back : (x : Refusal) → a .reply ≡ No x → a .core ≡ c
   -- accepted exactly when no row applies
   pub accepts : ((r : Report) × (a .reply ≡ Done r)) ↔ NoRow (card c) (callOf now change)
-  pub then : (r : Report) → a .reply ≡ Done r → Accepted c now change a
+  pub then : (r : Report) → a .reply ≡ Done r → Accepted c now change a r
 
 pub record Promised (calls : List Asking) : Type 0 where
   -- the core shows the rules' card after the same calls, and is that card written

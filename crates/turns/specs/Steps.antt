@@ -14,9 +14,14 @@ use Rattle.turns.specs.declared.Kind.{Kind}
 use Rattle.turns.specs.declared.Kind.the-variants.{Sporadic, Deferrable, Polling}
 use Rattle.turns.specs.declared.Vcpu.{Vcpu}
 use Rattle.turns.specs.declared.Pick.{Pick}
+use Rattle.turns.specs.declared.Told.{Told}
+use Rattle.turns.specs.declared.Brought.{Brought}
+use Rattle.turns.specs.declared.Total.{Total}
 use Rattle.rules.specs.Limits.{mostPending}
 use Rattle.rules.specs.Lists.{sum}
 use Rattle.rules.specs.Vcpu.{Vcpu as Tenant}
+use Rattle.rules.specs.Return.{returned}
+use Rattle.rules.specs.Told.{tells}
 use Rattle.turns.specs.Written.{never, idle, boundaryAt, written, shown, timerOf}
 
 -- ticks come back by a queue, or at boundaries
@@ -171,20 +176,22 @@ refilledOf v now =
 abbrev pub readyOf : Vcpu → Bool
 readyOf v = v .runnable && ltb 0 (v .usable .0)
 
-abbrev pub waitsOf : Vcpu → ℕ
-waitsOf v = cond (v .runnable) (headOf v) never
+-- the time reported of one that is runnable
+abbrev pub waitsOf : Bool → Moment → ℕ
+waitsOf runnable t = cond runnable (t .0) never
 
--- one place more; the ready one with its own next boundary
-unfoldable pub pickedOf : Pick → ℕ → Vcpu → Pick
-pickedOf k j v =
+-- one place more, `t` being the time reported of it; of the ready one that is its own next boundary
+unfoldable pub pickedOf : Pick → ℕ → Vcpu → Moment → Pick
+pickedOf k j v t =
     cond (ltb (k .at) idle) k
-    (cond (readyOf v) (record { at = j; usable = v .usable; soon = moment (min (k .soon .0) (timerOf (boundaryIn v))) })
-    (record { at = idle; usable = k .usable; soon = moment (min (k .soon .0) (waitsOf v)) }))
+    (cond (readyOf v) (record { at = j; usable = v .usable; soon = moment (min (k .soon .0) (timerOf (boundaryAt (v .kind) t))) })
+    (record { at = idle; usable = k .usable; soon = moment (min (k .soon .0) (waitsOf (v .runnable) t)) }))
 
--- all places from `j` on
-abbrev pub picks : Pick → ℕ → List Vcpu → Pick
-picks k j [] = k
-picks k j (v ∷ vs) = picks (pickedOf k j v) (suc j) vs
+-- all places from `j` on, each with the time reported of it
+abbrev pub picks : Pick → ℕ → List Vcpu → List Moment → Pick
+picks k j [] ts = k
+picks k j (v ∷ vs) [] = k
+picks k j (v ∷ vs) (t ∷ ts) = picks (pickedOf k j v t) (suc j) vs ts
 
 unfoldable pub timerFor : Moment → Pick → Moment
 timerFor now k = cond (ltb (k .at) idle) (moment (min (later now (k .usable) .0) (k .soon .0))) (k .soon)
@@ -193,12 +200,28 @@ timerFor now k = cond (ltb (k .at) idle) (moment (min (later now (k .usable) .0)
 abbrev pub bare : Vcpu → Tenant
 bare v = shown (tunnel 0) v
 
--- what the return step asks: a written record whose ticks fit, with a queue or with a period, and a moment that a period does not
--- carry to the one above all
+-- where nothing is due; and the return step of a tenant, with what it reports of it
+abbrev pub restsOf : Vcpu → Told
+restsOf v = record { ticks = amount 0; next = moment (headOf v) }
+
+abbrev pub broughtTo : ℕ → Tenant → Brought
+broughtTo now v =
+    record {
+      vcpu = written (returned now v);
+      told = record { ticks = amount (tells now v .ticks); next = moment (headOf (written (returned now v))) };
+    }
+
+-- what the reports come to
+abbrev pub totalOf : ℕ → Total
+totalOf n = record { ticks = amount n }
+
+-- what the return step asks: a written record whose ticks fit, with a queue or with a period and no more ticks than a refill leaves, and
+-- a moment that a period does not carry to the one above all
 pub record Returnable (v : Vcpu) (now : Moment) : Type 0 where
   pub written : v ≡ written (bare v)
   pub few : length (bare v .pending) ≤ mostPending
   pub fits : bare v .usable + sum (λ e. e .amount) (bare v .pending) < 4294967296
   pub no-queue : hasQueue (v .kind) ≡ false → bare v .pending ≡ []
+  pub fewer : hasQueue (v .kind) ≡ false → v .usable .0 ≤ leftOf (v .kind) (v .runnable) (v .capacity) .0
   pub period : 1 ≤ v .period .0
   pub time : now .0 + v .period .0 < never

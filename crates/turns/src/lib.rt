@@ -1,4 +1,4 @@
-// The scheduler of one core: timed calls go in, the VCPU to run, its usable ticks and the timer come out.
+// The scheduler of one core: timed calls go in, the VCPU to run, its usable ticks, the timer and the ticks that came back come out.
 mod judge;
 mod remember;
 mod steps;
@@ -79,11 +79,13 @@ pub enum Timer {
     At(Moment),
 }
 
+// What an accepted call answers; `brought` are the ticks that came back to all VCPUs together.
 pub struct Report {
     pub time: Moment,
     pub run: Holder,
     pub usable: Amount,
     pub timer: Timer,
+    pub brought: Amount,
 }
 
 pub enum Reply {
@@ -167,6 +169,23 @@ pub struct Core {
     n: usize,
 }
 
+// What the return step reports of a VCPU: the ticks that it brought, and the next time that something comes to it, or a time above all.
+struct Told {
+    ticks: Amount,
+    next: Moment,
+}
+
+// What the reports come to together. A struct of its own, so that a number more to report changes `steps` and not the loop in `turn`.
+struct Total {
+    ticks: Amount,
+}
+
+// A VCPU to which something came, and what is reported of it.
+struct Brought {
+    vcpu: Vcpu,
+    told: Told,
+}
+
 // What a look at the places so far has found: the first ready one, its usable ticks, and the next time that something comes to those
 // before it, or that is its own boundary.
 struct Pick {
@@ -231,13 +250,23 @@ impl Core {
             let v = p[running];
             p[running] = steps::charged(v, last, now);
         }
-        // 2. Return or refill, for every VCPU, runnable or not.
+        // 2. Return or refill, for every VCPU, runnable or not. Each reports; one that is not due is not written back.
+        let never = Moment::new(NEVER);
+        let mut next = [never; MOST_VCPUS];
+        let mut total = steps::nothing();
         let mut i = 0;
         while i < n {
             let v = p[i];
+            let mut told = steps::at_rest(v);
             if steps::due_by(v, now) {
-                p[i] = steps::returned(v, now);
+                let back = steps::returned(v, now);
+                let w = back.vcpu;
+                told = back.told;
+                p[i] = w;
             }
+            let soon = told.next;
+            next[i] = soon;
+            total = steps::together(total, told);
             i += 1;
         }
         // 3. Change.
@@ -248,8 +277,10 @@ impl Core {
                 let id = d.tunnel;
                 let wider = table::with_vcpu(p, k, v);
                 let longer = table::with_id(ids, k, id);
+                let later = table::with_time(next, k, never);
                 p = wider;
                 ids = longer;
+                next = later;
                 n += 1;
             }
             Change::Wake(_) => {
@@ -265,8 +296,10 @@ impl Core {
                 let left = remember::leaving(memory, id, v);
                 let closed = table::without_vcpu(p, at, steps::vacant());
                 let shorter = table::without_id(ids, at, Tunnel::new(NOBODY));
+                let fewer = table::without_time(next, at, never);
                 p = closed;
                 ids = shorter;
+                next = fewer;
                 memory = left;
                 n -= 1;
             }
@@ -277,12 +310,13 @@ impl Core {
         let mut pick = Pick {
             at: IDLE,
             usable: Amount::new(0),
-            soon: Moment::new(NEVER),
+            soon: never,
         };
         let mut j = 0;
         while j < n {
             let v = p[j];
-            pick = steps::picked(pick, j, v);
+            let t = next[j];
+            pick = steps::picked(pick, j, v, t);
             j += 1;
         }
         // 5. Timer.
@@ -291,11 +325,13 @@ impl Core {
         let usable = pick.usable;
         let run = table::holder(ids, chosen);
         let said = steps::timer_said(timer);
+        let brought = total.ticks;
         let report = Report {
             time: now,
             run,
             usable,
             timer: said,
+            brought,
         };
         Answer {
             core: Core {

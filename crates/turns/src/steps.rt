@@ -1,5 +1,6 @@
 // The steps on one VCPU: charge, return, change, and what choosing and the timer ask of it.
 use crate::Boundary;
+use crate::Brought;
 use crate::Description;
 use crate::IDLE;
 use crate::Kind;
@@ -7,6 +8,8 @@ use crate::MOST_PENDING;
 use crate::NEVER;
 use crate::Pick;
 use crate::Timer;
+use crate::Told;
+use crate::Total;
 use crate::Vcpu;
 use units::Amount;
 use units::Moment;
@@ -24,6 +27,7 @@ ghost use Rattle.turns.specs.Steps.{hasQueue, leftOf};
 ghost use Rattle.turns.specs.Steps.{elapsedOf, ticksAt, joinedOf, foldedOf, appendedOf, joinsOf, postedOf, spentOf, chargedOf};
 ghost use Rattle.turns.specs.Steps.{Chargeable, fromOf, ticksIn, returnedFirst, headOf, latestOf, untilNext, refilledOf};
 ghost use Rattle.turns.specs.Steps.{boundaryIn, runnableAs, readyOf, waitsOf, pickedOf, timerFor, bare, Returnable};
+ghost use Rattle.turns.specs.Steps.{restsOf, broughtTo, totalOf};
 
 // The kind of a VCPU on the card, from the byte asked for. An unknown one is refused before.
 fn kind_of(kind: u8) -> Kind
@@ -362,8 +366,19 @@ fn refilled(v: Vcpu, now: Moment) -> Vcpu
     w
 }
 
+// Where nothing is due: no ticks, and the next time.
+pub(crate) fn at_rest(v: Vcpu) -> Told
+    ensures { λ r. ⌜ r ≡ restsOf v ⌝ }
+{
+    let no_ticks = Amount::new(0);
+    Told {
+        ticks: no_ticks,
+        next: head(v),
+    }
+}
+
 // Where something is due: the returns, or a refill.
-pub(crate) fn returned(v: Vcpu, now: Moment) -> Vcpu
+fn came(v: Vcpu, now: Moment) -> Vcpu
     requires { ⌜ Returnable v now ⌝ }
     requires { ⌜ headOf v ≤ now .0 ⌝ }
     ensures { λ r. ⌜ r ≡ written (returnedRule (now .0) (bare v)) ⌝ }
@@ -373,6 +388,40 @@ pub(crate) fn returned(v: Vcpu, now: Moment) -> Vcpu
         return brought_in(v, now);
     }
     refilled(v, now)
+}
+
+// The return step of a VCPU to which something comes, and its report. The ticks are told by the difference, for every kind: a report made
+// where they are added costs a fifth more where eight entries return to each (docs/DECISIONS.md, "What the return step reports").
+pub(crate) fn returned(v: Vcpu, now: Moment) -> Brought
+    requires { ⌜ Returnable v now ⌝ }
+    requires { ⌜ headOf v ≤ now .0 ⌝ }
+    ensures { λ r. ⌜ r ≡ broughtTo (now .0) (bare v) ⌝ }
+{
+    let w = came(v, now);
+    let ticks = less(w.usable, v.usable);
+    let next = head(w);
+    Brought {
+        vcpu: w,
+        told: Told { ticks, next },
+    }
+}
+
+// Before the first report, and with one more.
+pub(crate) fn nothing() -> Total
+    ensures { λ r. ⌜ r ≡ totalOf 0 ⌝ }
+{
+    Total {
+        ticks: Amount::new(0),
+    }
+}
+
+pub(crate) fn together(total: Total, told: Told) -> Total
+    requires { ⌜ total .ticks .0 + told .ticks .0 < 4294967296 ⌝ }
+    ensures { λ r. ⌜ r ≡ totalOf (total .ticks .0 + told .ticks .0) ⌝ }
+{
+    Total {
+        ticks: more(total.ticks, told.ticks),
+    }
 }
 
 // The last time that something comes to it, or a time above all: its queue stands in order.
@@ -463,12 +512,12 @@ fn ready(v: Vcpu) -> bool
     v.runnable && 0 < ticks
 }
 
-// The next time that something comes to a runnable VCPU.
-fn waits(v: Vcpu) -> Moment
-    ensures { λ r. ⌜ r ≡ moment (waitsOf v) ⌝ }
+// The time reported of a VCPU, if it is runnable.
+fn waits(runnable: bool, t: Moment) -> Moment
+    ensures { λ r. ⌜ r ≡ moment (waitsOf runnable t) ⌝ }
 {
-    if v.runnable {
-        return head(v);
+    if runnable {
+        return t;
     }
     Moment::new(NEVER)
 }
@@ -482,9 +531,10 @@ fn sooner(a: Moment, b: Moment) -> Moment
     a
 }
 
-// One place more, in the order of urgency: the first ready one stays. It is asked for its own next boundary, not for its returns.
-pub(crate) fn picked(pick: Pick, j: usize, v: Vcpu) -> Pick
-    ensures { λ r. ⌜ r ≡ pickedOf pick j v ⌝ }
+// One place more, in the order of urgency: the first ready one stays. `t` is the time that the return step reported of it, which of the
+// ready one counts as its own next boundary, not as a return.
+pub(crate) fn picked(pick: Pick, j: usize, v: Vcpu, t: Moment) -> Pick
+    ensures { λ r. ⌜ r ≡ pickedOf pick j v t ⌝ }
 {
     if pick.at < IDLE {
         return pick;
@@ -493,7 +543,7 @@ pub(crate) fn picked(pick: Pick, j: usize, v: Vcpu) -> Pick
     let usable = v.usable;
     if ready(v) {
         let kind = v.kind;
-        let own = boundary(kind, head(v));
+        let own = boundary(kind, t);
         let next = sooner(soon, own);
         return Pick {
             at: j,
@@ -502,7 +552,7 @@ pub(crate) fn picked(pick: Pick, j: usize, v: Vcpu) -> Pick
         };
     }
     let none = pick.usable;
-    let first = sooner(soon, waits(v));
+    let first = sooner(soon, waits(v.runnable, t));
     Pick {
         at: IDLE,
         usable: none,

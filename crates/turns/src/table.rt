@@ -7,6 +7,7 @@ use crate::LAST_PLACE;
 use crate::MOST_VCPUS;
 use crate::NOWHERE;
 use crate::Vcpu;
+use units::Moment;
 use units::Tunnel;
 ghost use mathlib.Core.Path.{_≡_};
 ghost use Prim.Native.Nat.{_≤_, _<_};
@@ -120,6 +121,22 @@ pub(crate) fn with_id(p: [Tunnel; MOST_VCPUS], at: usize, v: Tunnel) -> [Tunnel;
     q
 }
 
+pub(crate) fn with_time(p: [Moment; MOST_VCPUS], at: usize, v: Moment) -> [Moment; MOST_VCPUS]
+    requires { ⌜ at ≤ mostVcpus ⌝ }
+    ensures { λ r. ⌜ r ≡ inserted at v p ⌝ }
+{
+    let mut q = p;
+    let mut carried = v;
+    let mut k = at;
+    while k < MOST_VCPUS {
+        let x = q[k];
+        q[k] = carried;
+        carried = x;
+        k += 1;
+    }
+    q
+}
+
 // What stood behind the place `at` one place forward, and `v` at the last place.
 pub(crate) fn without_vcpu(p: [Vcpu; MOST_VCPUS], at: usize, v: Vcpu) -> [Vcpu; MOST_VCPUS]
     requires { ⌜ at < mostVcpus ⌝ }
@@ -137,6 +154,21 @@ pub(crate) fn without_vcpu(p: [Vcpu; MOST_VCPUS], at: usize, v: Vcpu) -> [Vcpu; 
 }
 
 pub(crate) fn without_id(p: [Tunnel; MOST_VCPUS], at: usize, v: Tunnel) -> [Tunnel; MOST_VCPUS]
+    requires { ⌜ at < mostVcpus ⌝ }
+    ensures { λ r. ⌜ r ≡ removed at v p ⌝ }
+{
+    let mut q = p;
+    let mut k = at;
+    while k < LAST_PLACE {
+        let x = q[k + 1];
+        q[k] = x;
+        k += 1;
+    }
+    q[LAST_PLACE] = v;
+    q
+}
+
+pub(crate) fn without_time(p: [Moment; MOST_VCPUS], at: usize, v: Moment) -> [Moment; MOST_VCPUS]
     requires { ⌜ at < mostVcpus ⌝ }
     ensures { λ r. ⌜ r ≡ removed at v p ⌝ }
 {

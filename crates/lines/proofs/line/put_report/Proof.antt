@@ -1,5 +1,5 @@
 -- `put_report` puts the line of an accepted call. Each place of the program that facts are taken from is named once. Assumes nothing.
-use Prim.Native.Nat.{ℕ}
+use Prim.Native.Nat.{ℕ, _+_, _≤_}
 use mathlib.Core.List.{List, _∷_}
 use mathlib.Core.Path.{_≡_, _∙_, ap}
 use native.Mathlib.Omega.{arith}
@@ -10,7 +10,7 @@ use Rattle.text.proofs.Writing.{put-size, put-letters, put-two, put-as}
 use Rattle.lines.proofs.line.put_report.Statement.{statement}
 use Rattle.lines.proofs.line.put_report.Tie as tie
 
--- the places behind each of the fields: the time, who runs, its usable ticks, the timer; and how long `out` is there
+-- the places behind each of the fields: the time, who runs, its usable ticks, the timer, the ticks brought; and how long `out` is there
 abbrev F : Type 0
 F = tie.After-put-field
 
@@ -19,6 +19,9 @@ out c = c .before .before .before .before .args .out .now
 
 abbrev at : F → ℕ
 at c = c .before .before .before .before .args .at
+
+room : (c : F) → at c + 108 ≤ length (out c)
+room c = c .before .before .before .before .pre
 
 time-size : (c : F) → length (c .put-field .last .0) ≡ length (out c)
 time-size c = put-size (put-letters (out c) (at c) 111 107 (c .put-field .ensures .0))
@@ -49,6 +52,15 @@ usable c = c .before .before .before .before
 
 timer-size : (c : M) → length (c .put-timer .last .0) ≡ length (out (time (holder (usable c))))
 timer-size c = put-size (c .put-timer .ensures .0) ∙ usable-size (usable c)
+
+abbrev B : Type 0
+B = tie.After-put-field3
+
+abbrev timer : B → M
+timer c = c .before .before .before .before .before
+
+brought-size : (c : B) → length (c .put-field3 .last .0) ≡ length (out (time (holder (usable (timer c)))))
+brought-size c = put-size (c .put-field3 .ensures .0) ∙ timer-size (timer c)
 
 slice-write-out : tie.Need-slice-write-out
 slice-write-out c = search needs
@@ -88,9 +100,15 @@ put-timer-requires c κs =
     let h = holder u in
     omega (arith, time h .put-field .ensures .1, h .put-holder .ensures .1, u .put-field2 .ensures .1, usable-size u)
 
-put-end-requires : tie.Need-put-end-requires
-put-end-requires c κs =
-    let m = c .before .before .before in
+ticks-requires-3 : tie.Need-ticks-requires-3
+ticks-requires-3 c κs = search needs
+
+cast-put-field-2 : tie.Need-cast-put-field-2
+cast-put-field-2 c = search needs
+
+put-field-requires-3 : tie.Need-put-field-requires-3
+put-field-requires-3 c κs =
+    let m = c .before .before .before .before in
     let u = usable m in
     let h = holder u in
     omega (
@@ -102,26 +120,48 @@ put-end-requires c κs =
       timer-size m,
     )
 
+put-end-requires : tie.Need-put-end-requires
+put-end-requires c κs =
+    let b = c .before .before .before in
+    let m = timer b in
+    let u = usable m in
+    let h = holder u in
+    omega (
+      arith,
+      room (time h),
+      time h .put-field .ensures .1,
+      h .put-holder .ensures .1,
+      u .put-field2 .ensures .1,
+      m .put-timer .ensures .1,
+      b .put-field3 .ensures .1,
+      brought-size b,
+    )
+
 same-length : tie.Need-same-length
-same-length c = put-size (c .before .before .put-end .ensures .0) ∙ timer-size (c .before .before .before .before .before .before)
+same-length c = put-size (c .before .before .put-end .ensures .0) ∙ brought-size (c .before .before .before .before .before .before)
 
 returns : tie.Need-returns
 returns c =
     let e = c .before .before .put-end .ensures in
-    let m = c .before .before .before .before .before .before in
+    let b = c .before .before .before .before .before .before in
+    let m = timer b in
     let u = usable m in
     let h = holder u in
     let f = time h in
     let time-put = put-as (ap (λ (n : ℕ). 32 ∷ decimal n) (f .before .ticks .ensures)) (f .put-field .ensures .0) in
-    let usable-put = put-as (ap (λ (n : ℕ). 32 ∷ decimal n) (u .before .ticks2 .ensures)) (u .put-field2 .ensures .0) in (
+    let usable-put = put-as (ap (λ (n : ℕ). 32 ∷ decimal n) (u .before .ticks2 .ensures)) (u .put-field2 .ensures .0) in
+    let brought-put = put-as (ap (λ (n : ℕ). 32 ∷ decimal n) (b .before .ticks3 .ensures)) (b .put-field3 .ensures .0) in (
       put-letters (out f) (at f) 111 107
-          (put-two time-put (put-two (h .put-holder .ensures .0) (put-two usable-put (put-two (m .put-timer .ensures .0) (e .0))))),
+          (put-two time-put
+          (put-two (h .put-holder .ensures .0)
+          (put-two usable-put (put-two (m .put-timer .ensures .0) (put-two brought-put (e .0)))))),
       omega (
         arith,
         f .put-field .ensures .1,
         h .put-holder .ensures .1,
         u .put-field2 .ensures .1,
         m .put-timer .ensures .1,
+        b .put-field3 .ensures .1,
         e .1,
       ),
     )
@@ -141,6 +181,9 @@ put-report-spec =
     cast-put-field
     put-field-requires-2
     put-timer-requires
+    ticks-requires-3
+    cast-put-field-2
+    put-field-requires-3
     put-end-requires
     same-length
     returns)

@@ -4,39 +4,49 @@ use Prim.Native.Nat.{ℕ, _+_, _-_, _≤_, _<_}
 use mathlib.Core.Path.{_≡_, refl, ap, sym, _∙_, subst}
 use mathlib.Core.Logic.{⊎-elim}
 use mathlib.Core.List.{List, _++_}
-use mathlib.Core.Option.{none}
+use mathlib.Core.Option.{Option, none}
 use native.Mathlib.Omega.{arith}
 use lib.ListN.{length, set, take, drop}
 use borrow.Author.Needs.{needs}
 use borrow.Author.Tests.{ltb-false, not-true}
-use Rattle.units.specs.Units.{amount}
+use Rattle.units.specs.Units.{moment, amount}
 use Rattle.units.specs.declared.Amount.{Amount}
 use Rattle.units.specs.declared.Moment.{Moment}
 use Rattle.units.specs.declared.Tunnel.{Tunnel}
 use Rattle.rules.specs.Limits.{largestTime}
+use Rattle.rules.specs.Lists.{count}
 use Rattle.rules.specs.Vcpu.{admitted}
+use Rattle.rules.specs.Vcpu.{named as isNamed}
 use Rattle.rules.specs.Vcpu.{Vcpu as Tenant}
 use Rattle.rules.specs.Remember.{Remembered, kept}
 use Rattle.rules.specs.Change.{leaving}
 use Rattle.rules.specs.Change.{change as changeRule}
 use Rattle.rules.specs.Choose.{choose}
 use Rattle.rules.specs.Refuse.{refusal}
-use Rattle.rules.specs.Turn.{afterCharge, afterReturn}
+use Rattle.rules.specs.Told.{total}
+use Rattle.rules.specs.Told.{Told as ToldRule}
+use Rattle.rules.specs.Turn.{afterCharge, afterReturn, toldBy}
 use Rattle.rules.proofs.Accepted.{Passed, passed}
+use Rattle.rules.proofs.Brought.{once-charged}
+use Rattle.rules.proofs.Lists.{all-imp}
+use Rattle.rules.proofs.Told.{told-next}
 use Rattle.turns.specs.declared.Answer.{Answer}
+use Rattle.turns.specs.declared.Brought.{Brought}
 use Rattle.turns.specs.declared.Change.{Change}
 use Rattle.turns.specs.declared.Core.{Core}
 use Rattle.turns.specs.declared.Memory.{Memory}
 use Rattle.turns.specs.declared.Pick.{Pick}
 use Rattle.turns.specs.declared.Reply.the-variants.{Done}
+use Rattle.turns.specs.declared.Told.{Told}
 use Rattle.turns.specs.declared.Vcpu.{Vcpu}
 use Rattle.turns.specs.Calls.{asked, described}
 use Rattle.turns.specs.Steps.{picks}
 use Rattle.turns.specs.Places.{inserted, namedAt, removed}
 use Rattle.turns.specs.Remembered.{Fixed}
-use Rattle.turns.specs.Written.{card, never, noTenant, written, memoryOf}
+use Rattle.turns.specs.Written.{card, never, noTenant, timerOf, written, memoryOf}
 use Rattle.turns.proofs.Choose.{pickFor}
-use Rattle.turns.proofs.Invariant.{Between, Listed, SoundCore, between}
+use Rattle.turns.proofs.Invariant.{Between, Listed, SoundCore, between, means}
+use Rattle.turns.proofs.Heard.{saidOf, heard-returned}
 use Rattle.turns.proofs.Laid.{laid-length}
 use Rattle.turns.proofs.Made.{next-between, one-more, sound}
 use Rattle.turns.proofs.Questions.{unread}
@@ -46,22 +56,24 @@ use Rattle.turns.proofs.Remembered.{memory-fixed}
 use Rattle.turns.proofs.Shape.{Changeable, FilledBy, Removable, Stepped, Table, change-filled, changeable, changedTable}
 use Rattle.turns.proofs.Stage.{Stands, accepted-call, charge-asks, charge-stands, idle-stands, n-is, named-card, refused-call}
 use Rattle.turns.proofs.Stage.{kept-few, kept-none, kept-written, memory-written, returned-sound}
-use Rattle.turns.proofs.Sweep.{Sweeping, sweep-asks, sweep-due, sweep-filled, sweep-rests, sweep-start}
+use Rattle.turns.proofs.Sweep.{Reported, Sweeping, Swept, Visit, sweep-asks, sweep-due, sweep-ends, sweep-fits, sweep-on, sweep-rests}
+use Rattle.turns.proofs.Sweep.{sweep-start}
 use Rattle.turns.proofs.Core.turn.Statement.{statement}
 use Rattle.turns.proofs.Core.turn.Tie as tie
 
 abbrev Inv-loop : tie.InvT-loop
-Inv-loop now change ids n at memory p₀ running i₀ p i = Sweeping now ids n p₀ p i
+Inv-loop now change ids n at memory p₀ running top next₀ total₀ i₀ p next total i = Sweeping now ids n p₀ p next total i
 
 abbrev μ-loop : tie.MeasureT-loop
-μ-loop now change ids n at memory p₀ running i₀ p i = n - i
+μ-loop now change ids n at memory p₀ running top next₀ total₀ i₀ p next total i = n - i
 
 abbrev Inv-loop2 : tie.InvT-loop2
-Inv-loop2 now ids n at memory p running i pick₀ j₀ pick j =
-    (j ≤ n) × (n ≤ 32) × (length p ≡ 32) × (picks pick j (drop j (take n p)) ≡ picks pick₀ 0 (take n p))
+Inv-loop2 now ids n at memory p running next total i pick₀ j₀ pick j =
+    (j ≤ n) × (n ≤ 32) × (length p ≡ 32) × (length next ≡ 32)
+    × (picks pick j (drop j (take n p)) (drop j (take n next)) ≡ picks pick₀ 0 (take n p) (take n next))
 
 abbrev μ-loop2 : tie.MeasureT-loop2
-μ-loop2 now ids n at memory p running i pick₀ j₀ pick j = n - j
+μ-loop2 now ids n at memory p running next total i pick₀ j₀ pick j = n - j
 
 -- The places of the code, in its order, and from each the way to the one before it. A local more between two of them changes the way
 -- between them and no other line.
@@ -117,17 +129,21 @@ judged c = told c .before .before
 abbrev accepted : Charged → Accepted
 accepted c = c .before
 
+-- the first loop begins
+abbrev begun : tie.At-loop Inv-loop μ-loop Inv-loop2 μ-loop2 → Charged
+begun c = c .before .before .before
+
 abbrev sweep : Sweeps → tie.At-loop Inv-loop μ-loop Inv-loop2 μ-loop2
-sweep c = c .before .before .before
+sweep c = c .before .before .before .before
 
 abbrev charged : Returned → Charged
-charged c = c .before .before
+charged c = begun (c .before)
 
 abbrev returned : Changed → Returned
 returned c = c .before
 
 abbrev changed : Choosing → Changed
-changed c = c .before .before
+changed c = c .before
 
 abbrev choosing : Chosen → Choosing
 choosing c = c .before .before
@@ -191,6 +207,13 @@ module _ (c : Recalled) where
   abbrev vs₃ : List Tenant
   vs₃ = changeRule (now .0) (asked change) vs₂
 
+  -- what step 2 reports
+  abbrev ts : List ToldRule
+  ts = toldBy (card core) (now .0)
+
+  once : (t : ℕ) → count (isNamed t) vs₁ ≤ 1
+  once = once-charged (card core) (now .0) (means core valid .once)
+
   -- who is remembered after step 3
   abbrev rs₃ : List Remembered
   rs₃ = rs ++ leaving (asked change) vs₂
@@ -239,15 +262,24 @@ module _ (c : Returned) where
   j₂ = given (accepted (charged c))
 
   abbrev table : Table
-  table = record { places = c .before .loop .p; ids = core j₂ .ids; n = core j₂ .n; memory = memory j₂ }
+  table =
+      record { places = c .before .loop .p; ids = core j₂ .ids; n = core j₂ .n; memory = memory j₂; next = c .before .loop .next }
 
-  after-return : FilledBy table (vs₂ j₂) (rs j₂)
+  swept : Swept (now j₂) (core j₂ .ids) (core j₂ .n) (c .before .loop .p) (c .before .loop .next) (c .before .loop .total) (vs₁ j₂)
+  swept =
+      sweep-ends (now j₂) (core j₂ .ids) (core j₂ .n) (charged c .if2 .p) (c .before .loop .p) (c .before .loop .next)
+      (c .before .loop .total) (c .before .loop .i) (c .before .loop .inv) (c .loop-test .left) (vs₁ j₂) (after-charge (charged c) .filled)
+      (after-charge (charged c) .fits)
+
+  after-return : FilledBy table (vs₂ j₂) (rs j₂) (ts j₂)
   after-return =
       record {
-        table =
-            sweep-filled (now j₂) (core j₂ .ids) (core j₂ .n) (charged c .if2 .p) (c .before .loop .p) (c .before .loop .i)
-            (c .before .loop .inv) (c .loop-test .left) (vs₁ j₂) (after-charge (charged c) .filled) (after-charge (charged c) .fits);
+        table = swept .filled;
         memory = remembered j₂;
+        next =
+            swept .heard
+            ∙ heard-returned (now j₂ .0) (vs₁ j₂) (meets (accepted (charged c)) .not-above) (once j₂)
+            (stepped (accepted (charged c)) .sound);
       }
 
   -- step 3 by the arm of the change: what it asks, and what it leaves
@@ -258,18 +290,19 @@ module _ (c : Returned) where
         (changeable (card (core j₂)) (now j₂ .0) (stepped (accepted (charged c))) table after-return (change j₂) (at j₂) unread (named j₂)
         (meets (accepted (charged c)) .asked-for))
 
-    left-by : FilledBy (changedTable (now j₂ .0) asks (at j₂) unread table) (vs₃ j₂) (rs₃ j₂)
+    left-by : FilledBy (changedTable (now j₂ .0) asks (at j₂) unread table) (vs₃ j₂) (rs₃ j₂) (ts j₂)
     left-by =
-        subst (λ (x : Change). FilledBy (changedTable (now j₂ .0) x (at j₂) unread table) (vs₃ j₂) (rs₃ j₂)) e
+        subst (λ (x : Change). FilledBy (changedTable (now j₂ .0) x (at j₂) unread table) (vs₃ j₂) (rs₃ j₂) (ts j₂)) e
         (change-filled (card (core j₂)) (now j₂ .0) (stepped (accepted (charged c))) table after-return (change j₂) (at j₂) unread
         (named j₂) (meets (accepted (charged c)) .asked-for))
 
-filled-as : (x y : Table) (vs : List Tenant) (rs : List Remembered) → x .places ≡ y .places → x .ids ≡ y .ids → x .n ≡ y .n
-    → x .memory ≡ y .memory → FilledBy y vs rs → FilledBy x vs rs
-filled-as x y vs rs u v w m f =
+filled-as : (x y : Table) (vs : List Tenant) (rs : List Remembered) (ts : List ToldRule) → x .places ≡ y .places → x .ids ≡ y .ids
+    → x .n ≡ y .n → x .memory ≡ y .memory → x .next ≡ y .next → FilledBy y vs rs ts → FilledBy x vs rs ts
+filled-as x y vs rs ts u v w m t f =
     record {
       table = record { places = u ∙ f .table .places; tunnels = v ∙ f .table .tunnels; count = w ∙ f .table .count };
       memory = m ∙ f .memory;
+      next = t ∙ f .next;
     }
 
 module _ (c : Changed) where
@@ -280,33 +313,47 @@ module _ (c : Changed) where
   table₂ = table (returned c)
 
   abbrev table₃ : Table
-  table₃ = record { places = c .match2 .p; ids = c .match2 .ids; n = c .match2 .n; memory = c .match2 .memory }
+  table₃ =
+      record { places = c .match2 .p; ids = c .match2 .ids; n = c .match2 .n; memory = c .match2 .memory; next = c .match2 .next }
 
   -- an arm that leaves the table as its change has it
   abbrev left : Change → Table
   left asks = changedTable (now j₃ .0) asks (at j₃) unread table₂
 
-  arm : (asks : Change) → change j₃ ≡ asks → c .match2 .p ≡ left asks .places → c .match2 .ids ≡ left asks .ids
-      → c .match2 .n ≡ left asks .n → c .match2 .memory ≡ left asks .memory → FilledBy table₃ (vs₃ j₃) (rs₃ j₃)
-  arm asks e p ids n m = filled-as table₃ (left asks) (vs₃ j₃) (rs₃ j₃) p ids n m (left-by (returned c) asks e)
+  -- the time above all, where nothing is reported
+  abbrev top : Moment
+  top = returned c .before .before .before .new .result
 
-  after-change : FilledBy table₃ (vs₃ j₃) (rs₃ j₃)
+  top-is : top ≡ moment never
+  top-is = returned c .before .before .before .new .ensures
+
+  arm : (asks : Change) → change j₃ ≡ asks → c .match2 .p ≡ left asks .places → c .match2 .ids ≡ left asks .ids
+      → c .match2 .n ≡ left asks .n → c .match2 .memory ≡ left asks .memory → c .match2 .next ≡ left asks .next
+      → FilledBy table₃ (vs₃ j₃) (rs₃ j₃) (ts j₃)
+  arm asks e p ids n m t =
+      filled-as table₃ (left asks) (vs₃ j₃) (rs₃ j₃) (ts j₃) p ids n m t (left-by (returned c) asks e)
+
+  after-change : FilledBy table₃ (vs₃ j₃) (rs₃ j₃) (ts j₃)
   after-change =
       ⊎-elim
       (λ w. arm _ (w .1 .given .1)
-      (w .11 ∙ w .6 .ensures
+      (w .12 ∙ w .6 .ensures
       ∙ ap (λ (v : Vcpu). inserted (w .3 .result) v (table₂ .places)) (w .4 .ensures)
       ∙ ap (λ (k : ℕ). inserted k (written (admitted (now j₃ .0) (described (w .1 .given .0 .0)))) (table₂ .places)) (w .3 .ensures))
-      (w .8 ∙ w .7 .ensures ∙ ap (λ (k : ℕ). inserted k (w .1 .given .0 .0 .tunnel) (table₂ .ids)) (w .3 .ensures)) (w .9) (w .10))
+      (w .9 ∙ w .7 .ensures ∙ ap (λ (k : ℕ). inserted k (w .1 .given .0 .0 .tunnel) (table₂ .ids)) (w .3 .ensures)) (w .10) (w .11)
+      (w .13 ∙ w .8 .ensures
+      ∙ ap (λ (m : Moment). inserted (w .3 .result) m (table₂ .next)) top-is
+      ∙ ap (λ (k : ℕ). inserted k (moment never) (table₂ .next)) (w .3 .ensures)))
       (⊎-elim
-      (λ w. arm _ (w .1 .given .1) (w .7 ∙ ap (set (table₂ .places) (at j₃)) (w .3 .ensures)) (w .4) (w .5) (w .6))
+      (λ w. arm _ (w .1 .given .1) (w .7 ∙ ap (set (table₂ .places) (at j₃)) (w .3 .ensures)) (w .4) (w .5) (w .6) (w .8))
       (⊎-elim
-      (λ w. arm _ (w .1 .given .1) (w .7 ∙ ap (set (table₂ .places) (at j₃)) (w .3 .ensures)) (w .4) (w .5) (w .6))
+      (λ w. arm _ (w .1 .given .1) (w .7 ∙ ap (set (table₂ .places) (at j₃)) (w .3 .ensures)) (w .4) (w .5) (w .6) (w .8))
       (⊎-elim
       (λ w. arm _ (w .1 .given .1)
-      (w .12 ∙ w .6 .ensures ∙ ap (λ (v : Vcpu). removed (at j₃) v (table₂ .places)) (w .5 .ensures))
-      (w .9 ∙ w .8 .ensures ∙ ap (λ (t : Tunnel). removed (at j₃) t (table₂ .ids)) (w .7 .ensures)) (w .10) (w .11 ∙ w .4 .ensures))
-      (λ w. arm _ (w .1 .given .1) (w .5) (w .2) (w .3) (w .4)))))
+      (w .13 ∙ w .6 .ensures ∙ ap (λ (v : Vcpu). removed (at j₃) v (table₂ .places)) (w .5 .ensures))
+      (w .10 ∙ w .8 .ensures ∙ ap (λ (t : Tunnel). removed (at j₃) t (table₂ .ids)) (w .7 .ensures)) (w .11) (w .12 ∙ w .4 .ensures)
+      (w .14 ∙ w .9 .ensures ∙ ap (λ (m : Moment). removed (at j₃) m (table₂ .next)) top-is))
+      (λ w. arm _ (w .1 .given .1) (w .5) (w .2) (w .3) (w .4) (w .6)))))
       (c .match2 .came)
 
   between-places : Between (now j₃ .0) (vs₃ j₃)
@@ -317,6 +364,9 @@ module _ (c : Changed) where
 
   table-long : length (c .match2 .p) ≡ 32
   table-long = ap length (after-change .table .places) ∙ laid-length written (written noTenant) 32 (vs₃ j₃)
+
+  times-long : length (c .match2 .next) ≡ 32
+  times-long = ap length (after-change .next) ∙ laid-length (saidOf (ts j₃)) (moment never) 32 (vs₃ j₃)
 
 -- steps 4 and 5
 module _ (c : Answered) where
@@ -332,19 +382,24 @@ module _ (c : Answered) where
   abbrev looked-at : List Vcpu
   looked-at = take (meet .match2 .n) (meet .match2 .p)
 
+  abbrev heard : List Moment
+  heard = take (meet .match2 .n) (meet .match2 .next)
+
   in-time : now j₅ .0 ≤ largestTime
   in-time = meets (accepted (charged (returned meet))) .not-above
 
   picked-there : pick ≡ pickFor never 0 (vs₃ j₅) (choose (vs₃ j₅))
   picked-there =
-      sym (scan-end pick (chosen c .before .loop2 .j) (meet .match2 .n) (meet .match2 .p) (chosen c .before .loop2 .inv .0)
-      (chosen c .loop2-test .left))
-      ∙ chosen c .before .loop2 .inv .3
-      ∙ ap (λ (u : Amount). picks (record { at = 32; usable = u; soon = choosing (chosen c) .new3 .result }) 0 looked-at)
-      (choosing (chosen c) .before .new2 .ensures)
-      ∙ ap (λ (m : Moment). picks (record { at = 32; usable = amount 0; soon = m }) 0 looked-at) (choosing (chosen c) .new3 .ensures)
+      sym (scan-end pick (chosen c .before .loop2 .j) (meet .match2 .n) (meet .match2 .p) (meet .match2 .next)
+      (chosen c .before .loop2 .inv .0) (chosen c .loop2-test .left))
+      ∙ chosen c .before .loop2 .inv .4
+      ∙ ap (λ (u : Amount). picks (record { at = 32; usable = u; soon = top meet }) 0 looked-at heard)
+      (choosing (chosen c) .new3 .ensures)
+      ∙ ap (λ (m : Moment). picks (record { at = 32; usable = amount 0; soon = m }) 0 looked-at heard) (top-is meet)
       ∙ pick-found (now j₅ .0) (vs₃ j₅) in-time (between-places meet) (meet .match2 .p) (meet .match2 .ids) (meet .match2 .n)
-      (after-change meet .table)
+      (after-change meet .table) (saidOf (ts j₅)) (meet .match2 .next) (after-change meet .next)
+      (all-imp (λ v h r. ap (λ (o : Option ℕ). moment (timerOf o)) (h r)) (vs₃ j₅)
+      (told-next (now j₅ .0) (vs₁ j₅) (asked (change j₅)) (once j₅)))
 
   abbrev answer : Answer
   answer =
@@ -358,7 +413,13 @@ module _ (c : Answered) where
           running = pick .at;
           n = meet .match2 .n;
         };
-        reply = Done (record { time = now j₅; run = held c .holder .result; usable = pick .usable; timer = c .timer-said .result });
+        reply = Done (record {
+          time = now j₅;
+          run = held c .holder .result;
+          usable = pick .usable;
+          timer = c .timer-said .result;
+          brought = returned meet .before .loop .total .ticks;
+        });
       }
 
 named-requires : tie.Need-named-requires Inv-loop μ-loop Inv-loop2 μ-loop2
@@ -413,11 +474,19 @@ mul-p c = omega (arith, few (given (c .before .before .before)))
 array-set-from-p : tie.Need-array-set-from-p Inv-loop μ-loop Inv-loop2 μ-loop2
 array-set-from-p c = omega (arith, few (given (c .before .before .before)))
 
+new-requires : tie.Need-new-requires Inv-loop μ-loop Inv-loop2 μ-loop2
+new-requires c κs = search needs
+
+nothing-requires : tie.Need-nothing-requires Inv-loop μ-loop Inv-loop2 μ-loop2
+nothing-requires c κs = search needs
+
 loop-holds : tie.Need-loop-holds Inv-loop μ-loop Inv-loop2 μ-loop2
 loop-holds c =
-    let j : Recalled = given (accepted c) in
-    sweep-start (now j) (core j .ids) (core j .n) (c .if2 .p) (vs₁ j) (meets (accepted c) .not-above) (few j) (after-charge c .filled)
-    (after-charge c .fits)
+    let d : Charged = c .before .before in
+    let j : Recalled = given (accepted d) in
+    rw (c .before .new .ensures, c .nothing .ensures)
+    (sweep-start (now j) (core j .ids) (core j .n) (d .if2 .p) (vs₁ j) (meets (accepted d) .not-above) (few j) (after-charge d .filled)
+    (after-charge d .fits))
 
 mul-v-2 : tie.Need-mul-v-2 Inv-loop μ-loop Inv-loop2 μ-loop2
 mul-v-2 c = search needs
@@ -425,30 +494,69 @@ mul-v-2 c = search needs
 array-copy-out-v-2 : tie.Need-array-copy-out-v-2 Inv-loop μ-loop Inv-loop2 μ-loop2
 array-copy-out-v-2 c = search needs
 
+at-rest-requires : tie.Need-at-rest-requires Inv-loop μ-loop Inv-loop2 μ-loop2
+at-rest-requires c κs = search needs
+
 due-by-requires : tie.Need-due-by-requires Inv-loop μ-loop Inv-loop2 μ-loop2
 due-by-requires c κs = search needs
 
 -- one place of the first loop
 module _ (c : Sweeps) where
   abbrev j₁ : Recalled
-  j₁ = given (accepted (sweep c .before))
+  j₁ = given (accepted (begun (sweep c)))
 
-  abbrev Swept : List Vcpu → ℕ → Type 0
-  Swept p i = Sweeping (now j₁) (core j₁ .ids) (core j₁ .n) (sweep c .before .if2 .p) p i
+  abbrev visit : Visit
+  visit =
+      record {
+        now = now j₁;
+        ids = core j₁ .ids;
+        n = core j₁ .n;
+        p₀ = begun (sweep c) .if2 .p;
+        p = sweep c .loop .p;
+        next = sweep c .loop .next;
+        total = sweep c .loop .total;
+        i = sweep c .loop .i;
+        inv = sweep c .loop .inv;
+        below = c .before .before .before .loop-test .taken;
+        z = unread;
+      }
 
 returned-requires : tie.Need-returned-requires Inv-loop μ-loop Inv-loop2 μ-loop2
 returned-requires c κs =
-    let s : Sweeps = c .before in (
-      sweep-asks (now (j₁ s)) (core (j₁ s) .ids) (core (j₁ s) .n) (sweep s .before .if2 .p) (sweep s .loop .p) (sweep s .loop .i)
-          (sweep s .loop .inv) (s .before .before .loop-test .taken) unread,
-      ltb-false _ _ (not-true _ (sym (s .due-by .ensures) ∙ c .if3 .taken)),
-    )
+    let s : Sweeps = c .before in
+    (sweep-asks (visit s), ltb-false _ _ (not-true _ (sym (s .due-by .ensures) ∙ c .if3 .taken)))
 
 mul-p-2 : tie.Need-mul-p-2 Inv-loop μ-loop Inv-loop2 μ-loop2
 mul-p-2 c = search needs
 
 array-set-from-p-2 : tie.Need-array-set-from-p-2 Inv-loop μ-loop Inv-loop2 μ-loop2
 array-set-from-p-2 c = search needs
+
+-- where its arms meet: it has reported
+has-told : (c : tie.Joined3 Inv-loop μ-loop Inv-loop2 μ-loop2) → Reported (visit (c .before)) (c .if3 .p) (c .if3 .told)
+has-told c =
+    let s : Sweeps = c .before in
+    ⊎-elim
+    (λ w. told-as (visit s) _ _ _ _ (w .4) (w .5)
+    (subst (λ (b : Brought). Reported (visit s) (set (sweep s .loop .p) (sweep s .loop .i) (b .vcpu)) (b .told)) (sym (w .1 .ensures))
+    (sweep-due (visit s))))
+    (λ w. told-as (visit s) _ _ _ _ (w .1) (w .2 ∙ s .before .at-rest .ensures)
+    (sweep-rests (visit s) (sym (s .due-by .ensures) ∙ w .0 .left)))
+    (c .if3 .came)
+  where
+    told-as : (t : Visit) (q q′ : List Vcpu) (r r′ : Told) → q ≡ q′ → r ≡ r′ → Reported t q′ r′ → Reported t q r
+    told-as t q q′ r r′ e f k = rw (e, f) k
+
+mul-next : tie.Need-mul-next Inv-loop μ-loop Inv-loop2 μ-loop2
+mul-next c = search needs
+
+array-set-from-next : tie.Need-array-set-from-next Inv-loop μ-loop Inv-loop2 μ-loop2
+array-set-from-next c = search needs
+
+together-requires : tie.Need-together-requires Inv-loop μ-loop Inv-loop2 μ-loop2
+together-requires c κs =
+    let m = c .before in
+    sweep-fits (visit (m .before)) (m .if3 .p) (m .if3 .told) (has-told m)
 
 add-i : tie.Need-add-i Inv-loop μ-loop Inv-loop2 μ-loop2
 add-i c = search needs
@@ -458,16 +566,8 @@ loop-less c = search needs
 
 loop-again : tie.Need-loop-again Inv-loop μ-loop Inv-loop2 μ-loop2
 loop-again c =
-    let s : Sweeps = c .before in
-    ⊎-elim
-    (λ w. subst (λ (p : List Vcpu). Swept s p (sweep s .loop .i + 1))
-    (sym (w .2 ∙ ap (set (sweep s .loop .p) (sweep s .loop .i)) (w .1 .ensures)))
-    (sweep-due (now (j₁ s)) (core (j₁ s) .ids) (core (j₁ s) .n) (sweep s .before .if2 .p) (sweep s .loop .p) (sweep s .loop .i)
-    (sweep s .loop .inv) (s .before .before .loop-test .taken) unread))
-    (λ w. subst (λ (p : List Vcpu). Swept s p (sweep s .loop .i + 1)) (sym (w .1))
-    (sweep-rests (now (j₁ s)) (core (j₁ s) .ids) (core (j₁ s) .n) (sweep s .before .if2 .p) (sweep s .loop .p) (sweep s .loop .i)
-    (sweep s .loop .inv) (s .before .before .loop-test .taken) unread (sym (s .due-by .ensures) ∙ w .0 .left)))
-    (c .if3 .came)
+    let m = c .before .before in
+    rw (c .together .ensures) (sweep-on (visit (m .before)) (m .if3 .p) (m .if3 .told) (has-told m))
 
 enum-known-change : tie.Need-enum-known-change Inv-loop μ-loop Inv-loop2 μ-loop2
 enum-known-change c = search needs
@@ -497,6 +597,9 @@ with-vcpu-requires c κs = spot-small (c .before .before)
 
 with-id-requires : tie.Need-with-id-requires Inv-loop μ-loop Inv-loop2 μ-loop2
 with-id-requires c κs = spot-small (c .before .before .before)
+
+with-time-requires : tie.Need-with-time-requires Inv-loop μ-loop Inv-loop2 μ-loop2
+with-time-requires c κs = spot-small (c .before .before .before .before)
 
 add-n : tie.Need-add-n Inv-loop μ-loop Inv-loop2 μ-loop2
 add-n c = search needs
@@ -568,32 +671,38 @@ vacant-requires c κs = search needs
 without-vcpu-requires : tie.Need-without-vcpu-requires Inv-loop μ-loop Inv-loop2 μ-loop2
 without-vcpu-requires c κs = removable (c .before .before .before) .inside
 
-new-requires : tie.Need-new-requires Inv-loop μ-loop Inv-loop2 μ-loop2
-new-requires c κs = search needs
+new-requires-2 : tie.Need-new-requires-2 Inv-loop μ-loop Inv-loop2 μ-loop2
+new-requires-2 c κs = search needs
 
 without-id-requires : tie.Need-without-id-requires Inv-loop μ-loop Inv-loop2 μ-loop2
 without-id-requires c κs = removable (c .before .before .before .before .before) .inside
 
+without-time-requires : tie.Need-without-time-requires Inv-loop μ-loop Inv-loop2 μ-loop2
+without-time-requires c κs = removable (c .before .before .before .before .before .before) .inside
+
 sub-n : tie.Need-sub-n Inv-loop μ-loop Inv-loop2 μ-loop2
-sub-n c = removable (c .before .before .before .before .before .before) .one
+sub-n c = removable (c .before .before .before .before .before .before .before) .one
 
 enum-told-4 : tie.Need-enum-told-4 Inv-loop μ-loop Inv-loop2 μ-loop2
 enum-told-4 c = search needs
-
-new-requires-2 : tie.Need-new-requires-2 Inv-loop μ-loop Inv-loop2 μ-loop2
-new-requires-2 c κs = search needs
 
 new-requires-3 : tie.Need-new-requires-3 Inv-loop μ-loop Inv-loop2 μ-loop2
 new-requires-3 c κs = search needs
 
 loop2-holds : tie.Need-loop2-holds Inv-loop μ-loop Inv-loop2 μ-loop2
-loop2-holds c = (omega arith, table-few (changed c), table-long (changed c), refl)
+loop2-holds c = (omega arith, table-few (changed c), table-long (changed c), times-long (changed c), refl)
 
 mul-v-6 : tie.Need-mul-v-6 Inv-loop μ-loop Inv-loop2 μ-loop2
 mul-v-6 c = search needs
 
 array-copy-out-v-6 : tie.Need-array-copy-out-v-6 Inv-loop μ-loop Inv-loop2 μ-loop2
 array-copy-out-v-6 c = search needs
+
+mul-t : tie.Need-mul-t Inv-loop μ-loop Inv-loop2 μ-loop2
+mul-t c = search needs
+
+array-copy-out-t : tie.Need-array-copy-out-t Inv-loop μ-loop Inv-loop2 μ-loop2
+array-copy-out-t c = search needs
 
 picked-requires : tie.Need-picked-requires Inv-loop μ-loop Inv-loop2 μ-loop2
 picked-requires c κs = search needs
@@ -606,19 +715,22 @@ loop2-less c = search needs
 
 -- one place of the second loop
 abbrev scan : tie.After-picked Inv-loop μ-loop Inv-loop2 μ-loop2 → tie.At-loop2 Inv-loop μ-loop Inv-loop2 μ-loop2
-scan c = c .before .before .before
+scan c = c .before .before .before .before
 
 loop2-again : tie.Need-loop2-again Inv-loop μ-loop Inv-loop2 μ-loop2
 loop2-again c =
     let l = scan c .loop2 in
     let m : Changed = changed (scan c .before) in
-    let h : l .j < m .match2 .n = c .before .before .loop2-test .taken in (
+    let h : l .j < m .match2 .n = c .before .before .before .loop2-test .taken in (
       omega arith,
       table-few m,
       table-long m,
-      ap (λ (k : Pick). picks k (l .j + 1) (drop (l .j + 1) (take (m .match2 .n) (m .match2 .p)))) (c .picked .ensures)
-          ∙ scan-step (l .pick) (l .j) (m .match2 .n) (m .match2 .p) unread h (table-few m) (table-long m)
-          ∙ l .inv .3,
+      times-long m,
+      ap (λ (k : Pick). picks k (l .j + 1) (drop (l .j + 1) (take (m .match2 .n) (m .match2 .p)))
+          (drop (l .j + 1) (take (m .match2 .n) (m .match2 .next)))) (c .picked .ensures)
+          ∙ scan-step (l .pick) (l .j) (m .match2 .n) (m .match2 .p) (m .match2 .next) unread (moment 0) h (table-few m) (table-long m)
+          (times-long m)
+          ∙ l .inv .4,
     )
 
 timer-for-requires : tie.Need-timer-for-requires Inv-loop μ-loop Inv-loop2 μ-loop2
@@ -631,13 +743,15 @@ timer-said-requires : tie.Need-timer-said-requires Inv-loop μ-loop Inv-loop2 μ
 timer-said-requires c κs = search needs
 
 returns-2 : tie.Need-returns-2 Inv-loop μ-loop Inv-loop2 μ-loop2
-returns-2 c =
+returns-2 d =
+    let c : Answered = d .before in
     let j : Recalled = j₅ c in
     let m : Changed = meet c in
     one-more (core j) (now j) (change j) (start j .pre) (answer c)
     (answer-found (now j) (vs₃ j) (in-time c) (between-places m) (m .match2 .p) (m .match2 .ids) (m .match2 .n) (after-change m .table)
-    (rs₃ j) (m .match2 .memory) (after-change m .memory) (pick c) (picked-there c) (timed c .timer-for .result) (timed c .timer-for .ensures) (held c .holder .result) (held c .holder .ensures)
-    (c .timer-said .result) (c .timer-said .ensures)
+    (rs₃ j) (m .match2 .memory) (after-change m .memory) (pick c) (picked-there c) (timed c .timer-for .result)
+    (timed c .timer-for .ensures) (held c .holder .result) (held c .holder .ensures)
+    (c .timer-said .result) (c .timer-said .ensures) (returned m .before .loop .total .ticks) (total (ts j)) (swept (returned m) .sums)
     ∙ sym (turned-accepted (core j) (now j) (change j) (accept (accepted (charged (returned m))))))
 
 pub turn-spec : {M : Type 1} → statement M
@@ -659,13 +773,19 @@ turn-spec =
     charged-requires
     mul-p
     array-set-from-p
+    new-requires
+    nothing-requires
     loop-holds
     mul-v-2
     array-copy-out-v-2
+    at-rest-requires
     due-by-requires
     returned-requires
     mul-p-2
     array-set-from-p-2
+    mul-next
+    array-set-from-next
+    together-requires
     add-i
     loop-less
     loop-again
@@ -674,6 +794,7 @@ turn-spec =
     admitted-requires
     with-vcpu-requires
     with-id-requires
+    with-time-requires
     add-n
     enum-told-2
     mul-v-3
@@ -693,15 +814,17 @@ turn-spec =
     leaving-requires
     vacant-requires
     without-vcpu-requires
-    new-requires
+    new-requires-2
     without-id-requires
+    without-time-requires
     sub-n
     enum-told-4
-    new-requires-2
     new-requires-3
     loop2-holds
     mul-v-6
     array-copy-out-v-6
+    mul-t
+    array-copy-out-t
     picked-requires
     add-j
     loop2-less

@@ -1,4 +1,4 @@
--- `turns::steps::picked` meets its contract: the first ready one stays, else the next time that something comes, so far.
+-- `turns::steps::picked` meets its contract: the first ready one stays, else the earliest of the times reported so far.
 -- Assumes nothing.
 use Rattle.turns.specs.Steps.{pickedOf}
 use borrow.Author.Tests.{lt-ltb, le-ltb}
@@ -14,9 +14,6 @@ returns c = rw (lt-ltb _ _ (c .if1 .taken))
 ready-requires : tie.Need-ready-requires
 ready-requires c κs = search needs
 
-head-requires : tie.Need-head-requires
-head-requires c κs = search needs
-
 boundary-requires : tie.Need-boundary-requires
 boundary-requires c κs = search needs
 
@@ -26,11 +23,10 @@ sooner-requires c κs = search needs
 returns-2 : tie.Need-returns-2
 unfolding pickedOf
 returns-2 c = rw (
-  le-ltb _ _ (c .before .before .before .before .before .before .before .if1 .left),
-  (sym (c .before .before .before .before .ready .ensures) ∙ c .before .before .before .if2 .taken),
+  le-ltb _ _ (c .before .before .before .before .before .before .if1 .left),
+  (sym (c .before .before .before .ready .ensures) ∙ c .before .before .if2 .taken),
   c .sooner .ensures,
   c .before .boundary .ensures,
-  c .before .before .head .ensures,
 )
 
 waits-requires : tie.Need-waits-requires
@@ -52,4 +48,4 @@ returns-3 c = rw (
 pub picked-spec : {M : Type 1} → statement M
 picked-spec =
     tie.close
-    (tie.spec returns ready-requires head-requires boundary-requires sooner-requires returns-2 waits-requires sooner-requires-2 returns-3)
+    (tie.spec returns ready-requires boundary-requires sooner-requires returns-2 waits-requires sooner-requires-2 returns-3)

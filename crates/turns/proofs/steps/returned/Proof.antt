@@ -1,29 +1,27 @@
--- `turns::steps::returned` meets its contract: the due entries of a queue, or the refill of one that has none.
+-- `turns::steps::returned` meets its contract: what came, and what is told of it by the difference of its usable ticks.
 -- Assumes nothing.
-use mathlib.Core.Path.{sym, _∙_}
+use mathlib.Core.Path.{ap}
+use native.Mathlib.Omega.{arith}
 use borrow.Author.Needs.{needs}
-use Rattle.turns.proofs.Refill.{refills-so}
+use Rattle.turns.specs.declared.Vcpu.{Vcpu}
+use Rattle.turns.proofs.Reports.{gains, reports}
 use Rattle.turns.proofs.steps.returned.Statement.{statement}
 use Rattle.turns.proofs.steps.returned.Tie as tie
 
-has-queue-requires : tie.Need-has-queue-requires
-has-queue-requires c κs = search needs
+came-requires : tie.Need-came-requires
+came-requires c κs = search needs
 
-brought-in-requires : tie.Need-brought-in-requires
-brought-in-requires c κs =
-    (c .before .before .pre .0, (sym (c .before .has-queue .ensures) ∙ c .if1 .taken, c .before .before .pre .1))
+less-requires : tie.Need-less-requires
+less-requires c κs =
+    omega (arith, ap (λ (w : Vcpu). w .usable .0) (c .came .ensures), gains (c .before .args .v) (c .before .args .now) (c .before .pre .0))
+
+head-requires : tie.Need-head-requires
+head-requires c κs = search needs
 
 returns : tie.Need-returns
-returns c = c .brought-in .ensures
-
-refilled-requires : tie.Need-refilled-requires
-refilled-requires c κs = (c .before .before .pre .1, c .before .before .pre .0 .period)
-
-returns-2 : tie.Need-returns-2
-returns-2 c =
+returns c =
     let s : tie.Start = c .before .before .before in
-    c .refilled .ensures
-    ∙ refills-so (s .args .v) (s .args .now) (s .pre .0) (sym (c .before .before .has-queue .ensures) ∙ c .before .if1 .left) (s .pre .1)
+    reports (s .args .v) (s .args .now) (s .pre .0) _ _ _ (c .before .before .came .ensures) (c .before .less .ensures) (c .head .ensures)
 
 pub returned-spec : {M : Type 1} → statement M
-returned-spec = tie.close (tie.spec has-queue-requires brought-in-requires returns refilled-requires returns-2)
+returned-spec = tie.close (tie.spec came-requires less-requires head-requires returns)

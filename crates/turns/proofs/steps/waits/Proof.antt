@@ -1,14 +1,11 @@
--- `turns::steps::waits` meets its contract: the front of a runnable one, or the time above all.
+-- `turns::steps::waits` meets its contract: the time reported of a runnable one, or the time above all.
 -- Assumes nothing.
 use borrow.Author.Needs.{needs}
 use Rattle.turns.proofs.steps.waits.Statement.{statement}
 use Rattle.turns.proofs.steps.waits.Tie as tie
 
-head-requires : tie.Need-head-requires
-head-requires c κs = search needs
-
 returns : tie.Need-returns
-returns c = rw (c .head .ensures, c .before .if1 .taken)
+returns c = rw (c .if1 .taken)
 
 new-requires : tie.Need-new-requires
 new-requires c κs = search needs
@@ -17,4 +14,4 @@ returns-2 : tie.Need-returns-2
 returns-2 c = rw (c .new .ensures, c .before .if1 .left)
 
 pub waits-spec : {M : Type 1} → statement M
-waits-spec = tie.close (tie.spec head-requires returns new-requires returns-2)
+waits-spec = tie.close (tie.spec returns new-requires returns-2)

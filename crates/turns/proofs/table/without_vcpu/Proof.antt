@@ -1,18 +1,15 @@
 -- `turns::table::without_vcpu` meets its contract: the loop moves what stood behind one place forward.
 -- Assumes nothing.
-use Rattle.turns.specs.Places.{removed}
-use Rattle.turns.proofs.Shift.{remove-start, remove-step, remove-end}
-use borrow.Author.Needs.{needs}
-use mathlib.Core.List.{[], _∷_, _++_}
-use lib.ListN.{length, take, drop, length-set}
-use Prim.Native.Nat.{ℕ, suc, _+_, _-_, _<_}
+use Prim.Native.Nat.{_-_, _<_}
 use native.Mathlib.Omega.{arith}
-use mathlib.Core.Path.{_≡_, _∙_, subst}
+use lib.ListN.{length}
+use borrow.Author.Needs.{needs}
+use Rattle.turns.proofs.Shift.{Removing, remove-start, remove-again, remove-ends}
 use Rattle.turns.proofs.table.without_vcpu.Statement.{statement}
 use Rattle.turns.proofs.table.without_vcpu.Tie as tie
 
 abbrev Inv-loop : tie.InvT-loop
-Inv-loop at v q₀ k₀ q k = (k < 32) × (length q ≡ 32) × (take k q ++ (drop (suc k) q ++ v ∷ []) ≡ removed at v q₀)
+Inv-loop at v q₀ k₀ q k = Removing at v q₀ q k
 
 abbrev μ-loop : tie.MeasureT-loop
 μ-loop at v q₀ k₀ q k = 32 - k
@@ -43,22 +40,19 @@ loop-less : tie.Need-loop-less Inv-loop μ-loop
 loop-less c = omega arith
 
 loop-again : tie.Need-loop-again Inv-loop μ-loop
-loop-again c = let i : c .before .before .loop .k + 1 < length (c .before .before .loop .q) = omega
-    (arith, c .before .before .loop .inv .1, c .before .loop-test .taken) in (
-      omega arith,
-      simp length-set (c .before .before .loop .inv .1),
-      remove-step (c .before .before .loop .q) (c .before .before .loop .k) _ _ i
-          ∙ c .before .before .loop .inv .2,
-    )
+loop-again c =
+    let l = c .before .before .loop in
+    let s : tie.Start Inv-loop μ-loop = c .before .before .before in
+    remove-again (s .args .at) (s .args .v) (s .args .p) (l .q) _ (l .k) (l .inv) (c .before .loop-test .taken)
 
 array-set-from-q-2 : tie.Need-array-set-from-q-2 Inv-loop μ-loop
 array-set-from-q-2 c = search needs
 
 returns : tie.Need-returns Inv-loop μ-loop
-returns c = let e : c .before .loop .k ≡ 31 = omega (arith, c .before .loop .inv .0) in
-    remove-end (c .before .loop .q) 31 _ (c .before .loop .inv .1) ∙ subst (λ (k : ℕ). take k (c .before .loop .q) ++ (drop (suc k)
-    (c .before .loop .q) ++ c .before .before .args .v ∷ []) ≡ removed (c .before .before .args .at) (c .before .before .args .v)
-    (c .before .before .args .p)) e (c .before .loop .inv .2)
+returns c =
+    let l = c .before .loop in
+    let s : tie.Start Inv-loop μ-loop = c .before .before in
+    remove-ends (s .args .at) (s .args .v) (s .args .p) (l .q) (l .k) (l .inv) (c .loop-test .left)
 
 pub without-vcpu-spec : {M : Type 1} → statement M
 without-vcpu-spec =
