@@ -489,10 +489,16 @@ impl Core {
         self.reports.iter().filter(stands).filter_map(|report| report.next).min()
     }
 
+    /// The boundary that was reported of the chosen one; a sporadic one has none.
+    fn own_boundary(&self) -> Option<u64> {
+        let own = self.running?;
+        let is_own = |of: &Description| of.identifier == own && of.kind != 0;
+        self.reports.iter().find(|report| is_own(&report.description))?.next
+    }
+
     fn next_timer(&self) -> Option<u64> {
         let used_up = self.chosen().map(|vcpu| self.last + vcpu.usable(self.last));
-        let own_boundary = self.chosen().and_then(|vcpu| vcpu.next_boundary(self.last));
-        [used_up, own_boundary, self.awaited()].into_iter().flatten().min()
+        [used_up, self.own_boundary(), self.awaited()].into_iter().flatten().min()
     }
 
     fn reply(&self) -> Reply {

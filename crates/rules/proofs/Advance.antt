@@ -71,12 +71,15 @@ terms-charged last now v = go (noTicks last now)
     go true = refl
     go false = refl
 
-pub terms-stepped : (last now : ℕ) (o : Option ℕ) (v : Vcpu) → stepped last now o v .terms ≡ v .terms
-terms-stepped last now o v = terms-returned now (chargedIf last now o v) ∙ go (holds (v .terms .tunnel) o)
+pub terms-charged-if : (last now : ℕ) (o : Option ℕ) (v : Vcpu) → chargedIf last now o v .terms ≡ v .terms
+terms-charged-if last now o v = go (holds (v .terms .tunnel) o)
   where
     go : (b : Bool) → cond b (charged last now v) v .terms ≡ v .terms
     go true = terms-charged last now v
     go false = refl
+
+pub terms-stepped : (last now : ℕ) (o : Option ℕ) (v : Vcpu) → stepped last now o v .terms ≡ v .terms
+terms-stepped last now o v = terms-returned now (chargedIf last now o v) ∙ terms-charged-if last now o v
 
 pub runnable-stepped : (last now : ℕ) (o : Option ℕ) (v : Vcpu) → stepped last now o v .runnable ≡ v .runnable
 unfolding charged

@@ -5,11 +5,9 @@ use mathlib.Core.Bool.{Bool, true, false, cond}
 use mathlib.Core.List.{List, [], _∷_, _++_, map}
 use mathlib.Core.Logic.{inl}
 use mathlib.Core.Option.{Option, none, some}
-use Prim.Native.Nat.{ℕ, suc, _+_, _-_, _*_, _≤_}
-use native.Mathlib.Nat.{suc-mul}
+use Prim.Native.Nat.{ℕ, suc, _+_, _-_, _≤_}
 use native.Mathlib.Omega.{arith}
 use lib.Dec.{leb, eqb}
-use lib.ListN.{length}
 use borrow.Author.Tests.{eq-eqb, eqb-true}
 use Rattle.rules.specs.Lists.{sum, count, All, Among}
 use Rattle.rules.specs.Vcpu.{Vcpu, leaves, named}
@@ -27,14 +25,14 @@ use Rattle.rules.specs.Rows.{NoRow}
 use Rattle.rules.specs.Budgets.{Loses, held, not-held, Refill, before, full, empty, Budget}
 use Rattle.rules.specs.Brought.{FellDue, Added, not-yet, filled, nothing, Gets, Brings}
 use Rattle.rules.proofs.Tests.{tests, clash}
-use Rattle.rules.proofs.Lists.{all-among, all-every, among-all, count-same, map-among}
+use Rattle.rules.proofs.Lists.{all-among, all-every, among-all, count-same, map-among, sum-map, sum-most}
 use Rattle.rules.proofs.Queue.{brought-all}
 use Rattle.rules.proofs.ThreeKinds.{by-kind, leaves-all, leaves-most, terms-returned}
 use Rattle.rules.proofs.Timer.{next-says, next-none}
 use Rattle.rules.proofs.Told.{told-of, told-next, timer-from-told}
 use Rattle.rules.proofs.Sound.{Orderly, Sound, kept-charged, orderly-later}
 use Rattle.rules.proofs.Accepted.{passed}
-use Rattle.rules.proofs.Advance.{chargedIf, stepped, is-there, terms-charged, runnable-stepped}
+use Rattle.rules.proofs.Advance.{chargedIf, stepped, is-there, terms-charged-if, runnable-stepped}
 use Rattle.rules.proofs.Reached.{reached, pace, card-accepted}
 use Rattle.rules.proofs.Budgets.{fits-stepped, one-loss, one-queue, one-split, kept-or-taken}
 use Rattle.rules.proofs.Rows.{same, not-given}
@@ -197,13 +195,6 @@ each-charged c now = go (c .running) (c .vcpus)
     go (some t) [] = refl
     go (some t) (v ∷ vs) = ap (λ (l : List Vcpu). chargedIf (c .last) now (some t) v ∷ l) (go (some t) vs)
 
-charged-terms : (last now : ℕ) (o : Option ℕ) (v : Vcpu) → chargedIf last now o v .terms ≡ v .terms
-charged-terms last now o v = go (holds (v .terms .tunnel) o)
-  where
-    go : (b : Bool) → cond b (charged last now v) v .terms ≡ v .terms
-    go true = terms-charged last now v
-    go false = refl
-
 pub once-charged : (c : Card) (now : ℕ) → ((t : ℕ) → count (named t) (c .vcpus) ≤ 1) → (t : ℕ) → count (named t) (afterCharge c now) ≤ 1
 once-charged c now once t =
     omega (
@@ -211,16 +202,8 @@ once-charged c now once t =
       once t,
       ap (count (named t)) (each-charged c now),
       count-same (named t) (named t) (chargedIf (c .last) now (c .running)) (c .vcpus)
-          (all-every (λ v. ap (λ d. eqb (d .tunnel) t) (charged-terms (c .last) now (c .running) v)) (c .vcpus)),
+          (all-every (λ v. ap (λ d. eqb (d .tunnel) t) (terms-charged-if (c .last) now (c .running) v)) (c .vcpus)),
     )
-
-sum-most : {A : Type 0} (f : A → ℕ) (m : ℕ) (l : List A) → All (λ a. f a ≤ m) l → sum f l ≤ length l * m
-sum-most f m [] h = omega arith
-sum-most f m (a ∷ l) h = omega (arith, h .0, sum-most f m l (h .1), suc-mul (length l) m)
-
-sum-map : {A B : Type 0} (f : B → ℕ) (g : A → B) (l : List A) → sum f (map g l) ≡ sum (λ a. f (g a)) l
-sum-map f g [] = refl
-sum-map f g (a ∷ l) = omega (arith, sum-map f g l)
 
 -- one accepted call more, whatever calls came before
 module _ (calls : List Call) (call : Call) (e : refusal (after calls) (call .now) (call .asked) ≡ none) where
@@ -264,7 +247,7 @@ module _ (calls : List Call) (call : Call) (e : refusal (after calls) (call .now
       omega (
         arith,
         told-most (call .now) (step v) (λ e. k .sporadic e .0) (λ n. let q = k .refills n in (q .0, q .2, q .3)) (k .most),
-        ap (λ d. d .capacity) (charged-terms (c .last) (call .now) (c .running) v),
+        ap (λ d. d .capacity) (terms-charged-if (c .last) (call .now) (c .running) v),
         r .capacity-high,
         r .period-high,
       )

@@ -1,13 +1,14 @@
--- Laws of the words on lists: a fact of every one, membership, keeping, counting, a map, and one list behind another.
+-- Laws of the words on lists: a fact of every one, membership, keeping, counting, sums, a map, and one list behind another.
 -- Assumes nothing.
 use mathlib.Core.Path.{_≡_, refl, ap, sym, _∙_, subst}
 use mathlib.Core.Bool.{Bool, true, false, cond, not, _&&_}
 use mathlib.Core.List.{List, [], _∷_, _++_, map}
 use mathlib.Core.Logic.{_⊎_, inl, inr, ⊎-elim}
-use Prim.Native.Nat.{ℕ, zero, suc, _+_, _≤_}
+use Prim.Native.Nat.{ℕ, zero, suc, _+_, _*_, _≤_}
+use native.Mathlib.Nat.{suc-mul}
 use native.Mathlib.Omega.{arith}
 use lib.ListN.{length}
-use Rattle.rules.specs.Lists.{keep, any, count, All, Among}
+use Rattle.rules.specs.Lists.{keep, any, count, sum, All, Among}
 use Rattle.rules.specs.History.{ticks}
 use Rattle.rules.proofs.Tests.{clash, same-test, and-true, or-false, or-true, or-right}
 
@@ -226,3 +227,12 @@ module _ {A : Type 0} where
           ≡ suc (length l)
       go true k = omega arith
       go false k = omega arith
+
+  -- a sum of numbers none of which is above m, and of those that a map makes
+  pub sum-most : (f : A → ℕ) (m : ℕ) (l : List A) → All (λ a. f a ≤ m) l → sum f l ≤ length l * m
+  sum-most f m [] h = omega arith
+  sum-most f m (a ∷ l) h = omega (arith, h .0, sum-most f m l (h .1), suc-mul (length l) m)
+
+  pub sum-map : {B : Type 0} (f : B → ℕ) (g : A → B) (l : List A) → sum f (map g l) ≡ sum (λ a. f (g a)) l
+  sum-map f g [] = refl
+  sum-map f g (a ∷ l) = omega (arith, sum-map f g l)

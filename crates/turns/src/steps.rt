@@ -391,7 +391,7 @@ fn came(v: Vcpu, now: Moment) -> Vcpu
 }
 
 // The return step of a VCPU to which something comes, and its report. The ticks are told by the difference, for every kind: a report made
-// where they are added costs a fifth more where eight entries return to each (docs/DECISIONS.md, "What the return step reports").
+// where they are added was slower where many entries return at once (docs/DECISIONS.md, "What the return step reports").
 pub(crate) fn returned(v: Vcpu, now: Moment) -> Brought
     requires { ⌜ Returnable v now ⌝ }
     requires { ⌜ headOf v ≤ now .0 ⌝ }
