@@ -43,6 +43,12 @@ pub fn refuse<T>(number: u8) -> Result<T, Refusal> {
 
 pub trait Scheduler {
     fn turn(&mut self, now: u64, change: Change) -> Reply;
+
+    /// The pending ticks of all; the ticks that all held, removed ones too, and the idle ones.
+    fn totals(&self) -> (u64, u64);
+
+    #[cfg(test)]
+    fn usage(&self) -> crate::usage::Usage;
 }
 
 pub const LARGEST_TIME: u64 = 1_000_000_000_000;

@@ -27,7 +27,7 @@ fn serve<W: Write>(
     }
 }
 
-pub fn run(mut core: impl Scheduler, mut from: impl Read, to: impl Write) -> io::Result<()> {
+pub fn run(core: &mut impl Scheduler, mut from: impl Read, to: impl Write) -> io::Result<()> {
     let mut lines = Lines::new(to);
     let mut bytes = vec![0; ROOM];
     let mut held = 0;
@@ -35,7 +35,7 @@ pub fn run(mut core: impl Scheduler, mut from: impl Read, to: impl Write) -> io:
     let mut detail = 0;
     loop {
         let count = from.read(&mut bytes[held..])?;
-        let (used, number) = serve(&mut core, &bytes[..held + count], &mut lines)?;
+        let (used, number) = serve(core, &bytes[..held + count], &mut lines)?;
         let rest = held + count - used;
         detail += used as u64;
         let ends = count == 0 && rest > 0;
@@ -59,9 +59,9 @@ mod tests {
     const RECORDS: &[u8] = include_bytes!("../../crates/card/stdin");
     const LINES: &[u8] = include_bytes!("../../crates/card/stdout");
 
-    fn lines_of(core: impl Scheduler, from: impl Read) -> Vec<u8> {
+    fn lines_of(mut core: impl Scheduler, from: impl Read) -> Vec<u8> {
         let mut written = Vec::new();
-        run(core, from, &mut written).unwrap();
+        run(&mut core, from, &mut written).unwrap();
         written
     }
 

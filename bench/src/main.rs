@@ -8,10 +8,13 @@ mod plain;
 mod records;
 mod sizing;
 mod twin;
+#[cfg(test)]
+mod usage;
 
-use call::Scheduler;
+use call::{Change, Reply, Scheduler};
 use generator::Plan;
 use std::fs::File;
+use std::hint::black_box;
 use std::io::{self, Write};
 use std::os::fd::AsFd;
 
@@ -34,25 +37,41 @@ fn asked() -> Option<Plan> {
     })
 }
 
+/// No reply shows the totals. They are read here, once, so that keeping them is not left out.
+fn read_totals(core: &impl Scheduler) {
+    black_box(core.totals());
+}
+
+/// A call on a copy. Reading its totals would cost more than keeping them: it is only looked at.
+fn aside(core: &(impl Scheduler + Clone), now: u64, change: Change) -> Reply {
+    let mut copy = core.clone();
+    let reply = copy.turn(now, change);
+    black_box(&copy);
+    reply
+}
+
 fn calls(mut core: impl Scheduler + Clone) -> io::Result<()> {
     let plan = asked().ok_or(io::Error::other("fifteen digits are wanted"))?;
     let mut left = plan.in_turn();
     let seen = generator::run(plan, |now, change| {
         if left == 0 {
-            return core.clone().turn(now, change);
+            return aside(&core, now, change);
         }
         left -= 1;
         core.turn(now, change)
     });
+    read_totals(&core);
     println!("{seen}");
     Ok(())
 }
 
 /// Standard input and output without a buffer of the library's own.
-fn card(core: impl Scheduler) -> io::Result<()> {
+fn card(mut core: impl Scheduler) -> io::Result<()> {
     let from = File::from(io::stdin().as_fd().try_clone_to_owned()?);
     let to = File::from(io::stdout().as_fd().try_clone_to_owned()?);
-    front::run(core, from, to)
+    front::run(&mut core, from, to)?;
+    read_totals(&core);
+    Ok(())
 }
 
 fn records(words: &[&str]) -> io::Result<()> {

@@ -1,10 +1,13 @@
 //! The rules in place, as they are read: a table in no order, each VCPU with a queue of its own. The
 //! queue of a deferrable or polling one is a single entry that stays: its next boundary and its
-//! capacity. So the last entry of a queue has the time that a removed one is remembered with.
+//! capacity. So the last entry of a queue has the time that a removed one is remembered with. The
+//! totals are kept and not shown; that single entry is not pending.
 
 use crate::call::{refuse, Change, Description, Refusal, Reply, Report, Scheduler};
 use crate::call::{LARGEST_IDENTIFIER, LARGEST_PERIOD, LARGEST_TIME, MOST_PENDING, MOST_VCPUS};
 use crate::call::{POLLING, SPORADIC};
+#[cfg(test)]
+use crate::usage::{Row, Usage};
 
 #[derive(Clone, Copy)]
 struct Vcpu {
@@ -18,7 +21,12 @@ struct Vcpu {
     ended: u64,
     due: [u64; MOST_PENDING],
     amount: [u32; MOST_PENDING],
+    pending: u32,
+    held: u64,
 }
+
+#[cfg(test)]
+pub const RECORD: usize = std::mem::size_of::<Vcpu>();
 
 const FREE: Vcpu = Vcpu {
     id: 0,
@@ -31,6 +39,8 @@ const FREE: Vcpu = Vcpu {
     ended: 0,
     due: [0; MOST_PENDING],
     amount: [0; MOST_PENDING],
+    pending: 0,
+    held: 0,
 };
 
 impl Vcpu {
@@ -44,9 +54,11 @@ impl Vcpu {
             return;
         }
         self.usable -= used;
+        self.held += u64::from(used);
         if self.kind != SPORADIC {
             return;
         }
+        self.pending += used;
         let count = usize::from(self.count);
         let again = last + u64::from(self.period);
         if count > 0 && self.ended == last {
@@ -71,6 +83,7 @@ impl Vcpu {
             }
             brought += self.amount[0];
             self.usable += self.amount[0];
+            self.pending -= self.amount[0];
             self.due.copy_within(1.., 0);
             self.amount.copy_within(1.., 0);
             self.count -= 1;
@@ -111,6 +124,18 @@ impl Vcpu {
             used_up.min(self.due[0])
         }
     }
+
+    #[cfg(test)]
+    fn row(&self) -> Row {
+        let queue = if self.kind == SPORADIC { self.count } else { 0 };
+        Row {
+            id: self.id,
+            usable: self.usable,
+            queued: self.amount[..queue.into()].iter().sum(),
+            pending: self.pending,
+            held: self.held,
+        }
+    }
 }
 
 fn admitted(new: Description, now: u64) -> Vcpu {
@@ -147,6 +172,9 @@ pub struct Core {
     table: [Vcpu; MOST_VCPUS],
     remembered: usize,
     gone: [Gone; MOST_VCPUS],
+    /// Ticks that tenants held who were removed since.
+    removed: u64,
+    idle: u64,
 }
 
 impl Core {
@@ -159,6 +187,8 @@ impl Core {
             table: [FREE; MOST_VCPUS],
             remembered: 0,
             gone: [Gone { id: 0, until: 0 }; MOST_VCPUS],
+            removed: 0,
+            idle: 0,
         }
     }
 
@@ -255,6 +285,14 @@ impl Core {
         Ok(self.count)
     }
 
+    /// In idle nobody is charged, and the idle ticks are counted themselves.
+    fn charge(&mut self, now: u64) {
+        match self.running {
+            Some(running) => self.table[running].charge(self.last, now),
+            None => self.idle += now - self.last,
+        }
+    }
+
     fn change(&mut self, change: Change, place: usize, now: u64) {
         match change {
             Change::Tick => (),
@@ -264,6 +302,7 @@ impl Core {
                 if let Some(until) = self.table[place].last_due() {
                     self.remember(id, until);
                 }
+                self.removed += self.table[place].held;
                 self.count -= 1;
                 self.table[place] = self.table[self.count];
             }
@@ -307,9 +346,7 @@ impl Core {
 impl Scheduler for Core {
     fn turn(&mut self, now: u64, change: Change) -> Reply {
         let place = self.judge(now, &change)?;
-        if let Some(running) = self.running {
-            self.table[running].charge(self.last, now);
-        }
+        self.charge(now);
         let mut brought = 0;
         for vcpu in &mut self.table[..self.count] {
             brought += vcpu.give_back(now);
@@ -332,5 +369,17 @@ impl Scheduler for Core {
             timer,
             brought,
         })
+    }
+
+    fn totals(&self) -> (u64, u64) {
+        let pending = self.vcpus().iter().map(|vcpu| u64::from(vcpu.pending));
+        let held = self.vcpus().iter().map(|vcpu| vcpu.held);
+        (pending.sum(), held.sum::<u64>() + self.removed + self.idle)
+    }
+
+    #[cfg(test)]
+    fn usage(&self) -> Usage {
+        let rows = self.vcpus().iter().map(Vcpu::row).collect();
+        Usage::new(rows, self.removed, self.idle)
     }
 }

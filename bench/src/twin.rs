@@ -1,11 +1,13 @@
 //! The algorithm of the crate `turns`, in place: a table sorted by urgency, identifiers beside it,
 //! a time above all for none. The next boundary of one that has no queue stands at its front.
 //! Remembered identifiers and their times have arrays of their own, and so have, within a call, the
-//! times that the return step reports.
+//! times that the return step reports. The totals are kept and not shown.
 
 use crate::call::{refuse, Change, Description, Refusal, Reply, Report, Scheduler};
 use crate::call::{LARGEST_IDENTIFIER, LARGEST_PERIOD, LARGEST_TIME, MOST_PENDING, MOST_VCPUS};
 use crate::call::{POLLING, SPORADIC};
+#[cfg(test)]
+use crate::usage::{Row, Usage};
 
 const NEVER: u64 = u64::MAX;
 const NOBODY: u32 = u32::MAX;
@@ -21,11 +23,16 @@ struct Vcpu {
     period: u32,
     capacity: u32,
     usable: u32,
+    pending: u32,
+    held: u64,
     priority: u8,
     runnable: bool,
     count: u8,
     kind: u8,
 }
+
+#[cfg(test)]
+pub const RECORD: usize = std::mem::size_of::<Vcpu>();
 
 const VACANT: Vcpu = Vcpu {
     due: [NEVER; MOST_PENDING],
@@ -34,6 +41,8 @@ const VACANT: Vcpu = Vcpu {
     period: 0,
     capacity: 0,
     usable: 0,
+    pending: 0,
+    held: 0,
     priority: 0,
     runnable: false,
     count: 0,
@@ -45,9 +54,11 @@ impl Vcpu {
         let used = (now - last) as u32;
         let c = usize::from(self.count);
         self.usable -= used;
+        self.held += u64::from(used);
         if self.kind != SPORADIC {
             return;
         }
+        self.pending += used;
         if c > 0 && self.ended == last {
             self.amount[c - 1] += used;
         } else if c == MOST_PENDING {
@@ -73,7 +84,9 @@ impl Vcpu {
             return self.refill(now);
         }
         let returned = self.due.iter().take_while(|due| **due <= now).count();
-        self.usable += self.amount[..returned].iter().sum::<u32>();
+        let ticks = self.amount[..returned].iter().sum::<u32>();
+        self.usable += ticks;
+        self.pending -= ticks;
         self.due.copy_within(returned.., 0);
         self.due[MOST_PENDING - returned..].fill(NEVER);
         self.amount.copy_within(returned.., 0);
@@ -114,6 +127,17 @@ impl Vcpu {
             reported
         }
     }
+
+    #[cfg(test)]
+    fn row(&self, id: u32) -> Row {
+        Row {
+            id,
+            usable: self.usable,
+            queued: self.amount[..self.count.into()].iter().sum(),
+            pending: self.pending,
+            held: self.held,
+        }
+    }
 }
 
 fn admitted(new: Description, now: u64) -> Vcpu {
@@ -143,6 +167,9 @@ pub struct Core {
     gone: [u32; MOST_VCPUS],
     until: [u64; MOST_VCPUS],
     g: usize,
+    /// Ticks that tenants held who were removed since.
+    removed: u64,
+    idle: u64,
 }
 
 impl Core {
@@ -157,6 +184,8 @@ impl Core {
             gone: [NOBODY; MOST_VCPUS],
             until: [NEVER; MOST_VCPUS],
             g: 0,
+            removed: 0,
+            idle: 0,
         }
     }
 
@@ -271,6 +300,7 @@ impl Core {
             self.until[self.g] = until;
             self.g += 1;
         }
+        self.removed += self.places[at].held;
         self.places.copy_within(at + 1.., at);
         self.ids.copy_within(at + 1.., at);
         next.copy_within(at + 1.., at);
@@ -278,6 +308,15 @@ impl Core {
         self.ids[MOST_VCPUS - 1] = NOBODY;
         next[MOST_VCPUS - 1] = NEVER;
         self.n -= 1;
+    }
+
+    /// Where nobody held the core, its ticks are idle ones.
+    fn charge(&mut self, now: u64) {
+        if self.running >= self.n {
+            self.idle += now - self.last;
+        } else if now != self.last {
+            self.places[self.running].charge(self.last, now);
+        }
     }
 
     /// Who is due gets what is; the times reported, and the ticks brought.
@@ -332,9 +371,7 @@ impl Core {
 impl Scheduler for Core {
     fn turn(&mut self, now: u64, change: Change) -> Reply {
         let at = self.judge(now, &change)?;
-        if self.running < self.n && now != self.last {
-            self.places[self.running].charge(self.last, now);
-        }
+        self.charge(now);
         let (mut next, brought) = self.bring(now);
         self.forget(now);
         match change {
@@ -345,5 +382,19 @@ impl Scheduler for Core {
             Change::Remove(_) => self.remove(at, &mut next),
         }
         Ok(self.report(now, &next, brought))
+    }
+
+    fn totals(&self) -> (u64, u64) {
+        let used = &self.places[..self.n];
+        let pending = used.iter().map(|v| u64::from(v.pending));
+        let held = used.iter().map(|v| v.held);
+        (pending.sum(), held.sum::<u64>() + self.removed + self.idle)
+    }
+
+    #[cfg(test)]
+    fn usage(&self) -> Usage {
+        let used = self.places[..self.n].iter().zip(self.ids);
+        let rows = used.map(|(v, id)| v.row(id)).collect();
+        Usage::new(rows, self.removed, self.idle)
     }
 }

@@ -31,7 +31,7 @@ impl Late {
             let brought = stay.brought(since, now);
             most += brought;
             least += if stay.folded { 0 } else { brought };
-            all &= !stay.folded || stay.has_all_back(now);
+            all &= !stay.may_be_late(now);
             stay.of_kind(counts).brought += u64::from(brought > 0);
         }
         least = if all && !self.unsure { most } else { least };
@@ -44,12 +44,26 @@ impl Late {
         Ok(())
     }
 
+    pub fn has_ticks(&self) -> bool {
+        self.ticks > 0
+    }
+
+    /// How many of one stay's ticks are late, at the least and at the most: of several such stays
+    /// the lines do not say whose they are.
+    pub fn of(&self, stay: &Stay, stays: &BTreeMap<u32, Stay>, now: u64) -> (u64, u64) {
+        let several = stays.values().filter(|stay| stay.may_be_late(now)).count() > 1;
+        match stay.may_be_late(now) {
+            true if several || self.unsure => (0, self.ticks),
+            true => (self.ticks, self.ticks),
+            false => (0, 0),
+        }
+    }
+
     /// A stay ends, and with it what of its ticks is late. The others are on the card still.
     pub fn end(&mut self, stay: &Stay, others: &BTreeMap<u32, Stay>, now: u64) {
-        let may_be_late = |stay: &Stay| stay.folded && !stay.has_all_back(now);
-        if !others.values().any(may_be_late) {
+        if !others.values().any(|stay| stay.may_be_late(now)) {
             *self = Late::default();
-        } else if may_be_late(stay) {
+        } else if stay.may_be_late(now) {
             self.unsure = true;
         }
     }
@@ -129,6 +143,11 @@ mod tests {
             let (mut late, mut stays) = (Late::default(), both(other));
             let sure = if other == 1 { 2 } else { 14 };
             assert!(check(&mut late, &stays, (60, 144), 14 + sure));
+            let of = |late: &Late, place| late.of(&stays[&place], &stays, 144);
+            assert_eq!(
+                [1, 2].map(|place| of(&late, place)),
+                if other == 1 { [(4, 4), (0, 0)] } else { [(0, 8); 2] }
+            );
             let gone = stays.remove(&1).unwrap();
             late.end(&gone, &stays, 144);
             let passes = |total| check(&mut late.clone(), &stays, (144, 144), total);

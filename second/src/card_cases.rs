@@ -49,7 +49,7 @@ fn identifier(change: &Change) -> Option<u32> {
     }
 }
 
-fn word(change: &Change) -> &'static str {
+pub fn word(change: &Change) -> &'static str {
     match change {
         Change::Admit(_) => "admit",
         Change::Wake(_) => "wake",

@@ -20,6 +20,9 @@ pub struct Plan {
     pub wait: Duration,
 }
 
+/// The records that all runs have together, if no other number is asked for.
+pub const RECORDS: u64 = 2_000_000;
+
 /// How many runs, and about how many records each: enough runs for every ending, and now
 /// and then a long one.
 struct Lengths {
@@ -133,13 +136,7 @@ pub fn run(plan: &Plan) -> Result<String, String> {
         place += 1;
     }
     let cases = card_cases::asked();
-    if plan.list {
-        reached.list(&cases);
-    }
-    let missing = reached.missing(&cases);
-    if !missing.is_empty() {
-        return Err(format!("seed {}: cases not reached: {}", plan.seed, missing.join(", ")));
-    }
+    reached.demand(&cases, plan.seed, plan.list)?;
     println!("{place} runs, {accepted} of {records} calls accepted");
     println!("{}", reached.refusals());
     Ok(format!("compare-card: {records} records agree, {} cases reached", cases.len()))

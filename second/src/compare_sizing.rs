@@ -162,13 +162,7 @@ pub fn run(plan: &Plan) -> Result<String, String> {
         return Err(format!("seed {}: {difference}", plan.seed));
     }
     let cases = query_cases::asked();
-    if plan.list {
-        reached.list(&cases);
-    }
-    let missing = reached.missing(&cases);
-    if !missing.is_empty() {
-        return Err(format!("seed {}: cases not reached: {}", plan.seed, missing.join(", ")));
-    }
+    reached.demand(&cases, plan.seed, plan.list)?;
     println!("{}", reached.refusals());
     Ok(format!("compare-sizing: {} queries agree, {} cases reached", asked.len(), cases.len()))
 }

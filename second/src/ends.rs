@@ -1,4 +1,4 @@
-//! `ends-card` and `ends-sizing`: how a program ends where it cannot read or write. A read
+//! `ends-card`, `ends-sizing` and `ends-usage`: how a program ends where it cannot read or write. A read
 //! or write that fails ends it with a line on standard error, and a failed read is no end
 //! of input; a reader that is gone ends it by SIGPIPE and without a line. It has to end
 //! though more input may come.
@@ -56,6 +56,22 @@ pub fn sizing(program: &str, limit: Duration) -> Result<String, String> {
     let begun = b"supply 4 3 2".to_vec();
     let subject = Subject { command: vec![program], name: "sizing", answered, lines, begun, limit };
     Ok(format!("ends-sizing: {} cases agree", subject.try_all()?))
+}
+
+/// It says nothing before its reading ends: where a read fails, nothing at all; a bad record ends
+/// the reading though the input stays open. What it says is short, so that a reader that goes
+/// behind a line may leave it nothing to meet.
+pub fn usage(program: &str, limit: Duration) -> Result<String, String> {
+    let records = words::to_records("admit 0 id 257 T 10 C 3 pr 1\nwake 0 id 257\ntick 3\n")?;
+    let begun = words::to_records("tick 4\n")?[..7].to_vec();
+    let bad = [&records[..], &[9, 0, 0]].concat();
+    let (command, name, lines) = (vec![program], "usage", String::new());
+    let reads = Subject { command, name, answered: records, lines, begun, limit };
+    let writes =
+        Subject { command: vec![program], lines: String::new(), answered: bad, begun: Vec::new(), ..reads };
+    let cases = reads.failed_reads()? + reads.input_not_there_yet()? + writes.failed_writes()?;
+    writes.gone_reader("a reader that is gone", false)?;
+    Ok(format!("ends-usage: {} cases agree", cases + 1))
 }
 
 type Cases = Result<usize, String>;
@@ -152,27 +168,25 @@ impl Subject<'_> {
 
     /// The reader goes before the first line, or behind it.
     fn gone_readers(&self) -> Cases {
-        let cases = ["a reader that is gone", "a reader that goes behind a line"];
-        for (case, reads) in cases.iter().zip([false, true]) {
-            let mut child = pipe::start(&self.command, Stdio::piped(), Stdio::piped())?;
-            let mut to = child.stdin.take().expect("a pipe was asked for");
-            let mut from = BufReader::new(child.stdout.take().expect("a pipe was asked for"));
-            if reads {
-                to.write_all(&self.answered).map_err(told)?;
-                from.read_line(&mut String::new()).map_err(told)?;
-            }
-            drop(from);
-            // One that has met the closed pipe already takes no more.
-            to.write_all(&self.answered).ok();
-            let meant = End {
-                output: String::new(),
-                complaint: String::new(),
-                signal: Some(BROKEN_PIPE),
-                code: None,
-            };
-            agree(case, &self.ended(case, child)?, &meant)?;
+        self.gone_reader("a reader that is gone", false)?;
+        self.gone_reader("a reader that goes behind a line", true)?;
+        Ok(2)
+    }
+
+    fn gone_reader(&self, case: &str, reads: bool) -> Result<(), String> {
+        let mut child = pipe::start(&self.command, Stdio::piped(), Stdio::piped())?;
+        let mut to = child.stdin.take().expect("a pipe was asked for");
+        let mut from = BufReader::new(child.stdout.take().expect("a pipe was asked for"));
+        if reads {
+            to.write_all(&self.answered).map_err(told)?;
+            from.read_line(&mut String::new()).map_err(told)?;
         }
-        Ok(cases.len())
+        drop(from);
+        // One that has met the closed pipe already takes no more.
+        to.write_all(&self.answered).ok();
+        let meant =
+            End { output: String::new(), complaint: String::new(), signal: Some(BROKEN_PIPE), code: None };
+        agree(case, &self.ended(case, child)?, &meant)
     }
 }
 

@@ -26,7 +26,8 @@ pub struct Card {
     /// Where the first byte that is not used up stands, from the start of input.
     offset: u64,
     unread: Vec<u8>,
-    stopped: bool,
+    /// What ended the reading.
+    stopped: Option<Refusal>,
 }
 
 impl Card {
@@ -36,7 +37,7 @@ impl Card {
 
     /// The card that has answered all its records so far, of so many bytes, and stands so.
     pub fn after(core: Core, offset: u64) -> Card {
-        Card { core, offset, unread: Vec::new(), stopped: false }
+        Card { core, offset, unread: Vec::new(), stopped: None }
     }
 
     /// The bytes of all that it has answered so far.
@@ -46,13 +47,22 @@ impl Card {
     }
 
     pub fn has_stopped(&self) -> bool {
+        self.stopped.is_some()
+    }
+
+    pub fn stopped(&self) -> Option<Refusal> {
         self.stopped
+    }
+
+    pub fn core(&self) -> &Core {
+        &self.core
     }
 
     /// The bad record begins where the last good one ended.
     fn stop(&mut self, number: u32) -> String {
-        self.stopped = true;
-        line(&refuse_with(number, self.offset))
+        let refused = refuse_with(number, self.offset);
+        self.stopped = refused.err();
+        line(&refused)
     }
 
     /// The lines that can be given before more bytes come.
@@ -60,7 +70,7 @@ impl Card {
         let mut lines = String::new();
         self.unread.extend(bytes);
         let mut used = 0;
-        while !self.stopped {
+        while !self.has_stopped() {
             match records::read(&self.unread[used..]) {
                 Ok((call, length)) => {
                     used += length;
@@ -77,7 +87,7 @@ impl Card {
 
     /// What the end of the input adds.
     pub fn end(&mut self) -> String {
-        if self.stopped || self.unread.is_empty() {
+        if self.has_stopped() || self.unread.is_empty() {
             return String::new();
         }
         match records::read(&self.unread) {
@@ -87,19 +97,27 @@ impl Card {
     }
 }
 
-pub fn run(mut input: impl Read, mut output: impl Write) -> io::Result<()> {
+/// Reads until the card stops or the input ends; the lines of each read are told before the next.
+pub fn follow(mut input: impl Read, mut tell: impl FnMut(&str) -> io::Result<()>) -> io::Result<Card> {
     let mut card = Card::new();
     let mut buffer = [0; 65536];
-    while !card.stopped {
+    while !card.has_stopped() {
         let count = input.read(&mut buffer)?;
         if count == 0 {
             break;
         }
-        output.write_all(card.take(&buffer[..count]).as_bytes())?;
-        output.flush()?;
+        tell(&card.take(&buffer[..count]))?;
     }
-    output.write_all(card.end().as_bytes())?;
-    output.flush()
+    tell(&card.end())?;
+    Ok(card)
+}
+
+pub fn run(input: impl Read, mut output: impl Write) -> io::Result<()> {
+    let tell = |lines: &str| {
+        output.write_all(lines.as_bytes())?;
+        output.flush()
+    };
+    follow(input, tell).map(drop)
 }
 
 #[cfg(test)]

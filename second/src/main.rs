@@ -5,14 +5,18 @@ mod brought;
 mod card_cases;
 mod compare_card;
 mod compare_sizing;
+mod compare_usage;
 mod endings;
 mod ends;
 mod generate;
+mod held;
+mod history;
 mod kind_cases;
 mod leaving;
 mod lines;
 mod offsets;
 mod outside;
+mod outside_usage;
 mod picture;
 #[cfg(test)]
 mod plain_card;
@@ -24,12 +28,19 @@ mod return_cases;
 mod returns;
 mod row_cases;
 mod script;
+mod seen_cases;
+mod seen_totals;
 mod sizing;
 mod stay_cases;
 mod stays;
 mod total_cases;
 mod totals;
 mod turns;
+mod usage_cases;
+mod usage_facts;
+mod usage_lines;
+mod usage_runs;
+mod usage_table;
 mod ways;
 mod words;
 #[cfg(test)]
@@ -44,6 +55,8 @@ mod wrong_returns;
 mod wrong_sizings;
 #[cfg(test)]
 mod wrong_totals;
+#[cfg(test)]
+mod wrong_usages;
 
 use options::Options;
 use second::{options, pipe, random, refusal, shares};
@@ -54,21 +67,27 @@ const USAGE: &str = "usage: second COMMAND
 from standard input to standard output:
   sizing      queries to answers, by the plain reading
   card        event records to lines
+  usage-lines event records to the totals at their end
   words       records in words to bytes
   unwords     bytes to records in words
 with the program to try:
   compare-sizing PROGRAM [--seed S] [--count N] [--list 1] [--wait S]
   compare-card PROGRAM [--seed S] [--records N] [--list 1] [--wait S]
+  compare-usage PROGRAM [--seed S] [--runs N] [--list 1] [--wait S]
   ends-sizing PROGRAM [--wait S]
   ends-card PROGRAM [--wait S]
+  ends-usage PROGRAM [--wait S]
   outside PROGRAM [--seed S] [--runs N]
+with the two programs to try together:
+  outside-usage CARD-PROGRAM USAGE-PROGRAM [--seed S] [--runs N] [--list 1]
 a picture of records in words, from standard input to standard output:
   picture PROGRAM
+a table of who held the core, from records of standard input to standard output:
+  usage PROGRAM
 one run of a comparison, as records:
-  run [--seed S] [--records N] [--run K]
-  outside-run [--seed S] [--run K]";
-
-const RECORDS: u64 = 2_000_000;
+  run [--seed S] [--records N] [--run K] [--prefix N]
+  outside-run [--seed S] [--run K] [--prefix N]
+  usage-run [--seed S] [--run K] [--prefix N]";
 
 fn main() {
     let words: Vec<String> = std::env::args().skip(1).collect();
@@ -84,12 +103,18 @@ fn main() {
 
 fn run(command: &str, options: &Options) -> Result<(), String> {
     match command {
-        "compare-sizing" | "compare-card" | "ends-sizing" | "ends-card" | "outside" => {
+        "compare-sizing" | "compare-card" | "compare-usage" | "ends-sizing" | "ends-card" | "ends-usage"
+        | "outside" => {
             println!("{}", try_program(command, options)?);
             Ok(())
         }
+        "outside-usage" => {
+            println!("{}", try_both(options)?);
+            Ok(())
+        }
         "picture" => write_picture(options),
-        "run" | "outside-run" => write_run(command, options),
+        "usage" => write_usage(options),
+        "run" | "outside-run" | "usage-run" => write_run(command, options),
         _ => filter(command).map_err(|error| error.to_string())?,
     }
 }
@@ -100,6 +125,7 @@ fn filter(command: &str) -> io::Result<Result<(), String>> {
     match command {
         "sizing" => sizing::run(input, output)?,
         "card" => lines::run(input, output)?,
+        "usage-lines" => usage_lines::run(input, output)?,
         "words" => match words::to_records(&io::read_to_string(input)?) {
             Ok(bytes) => output.write_all(&bytes)?,
             Err(error) => return Ok(Err(error)),
@@ -124,11 +150,16 @@ fn try_program(command: &str, options: &Options) -> Result<String, String> {
             compare_sizing::run(&compare_sizing::Plan { program, seed, count, list, wait })
         }
         "compare-card" => {
-            let records = options.number("records", RECORDS);
+            let records = options.number("records", compare_card::RECORDS);
             compare_card::run(&compare_card::Plan { program, seed, records, list, wait })
+        }
+        "compare-usage" => {
+            let runs = options.number("runs", 2000);
+            compare_usage::run(&compare_usage::Plan { program, seed, runs, list, wait })
         }
         "ends-sizing" => ends::sizing(&program, wait),
         "ends-card" => ends::card(&program, wait),
+        "ends-usage" => ends::usage(&program, wait),
         _ => {
             let runs = options.number("runs", 10_000);
             outside::run(&outside::Plan { program, seed, runs })
@@ -136,19 +167,40 @@ fn try_program(command: &str, options: &Options) -> Result<String, String> {
     }
 }
 
+fn try_both(options: &Options) -> Result<String, String> {
+    let [card, usage] = options.programs()?;
+    let (seed, runs) = (options.number("seed", 1), options.number("runs", 2500));
+    let list = options.number("list", 0) != 0;
+    outside_usage::run(&outside_usage::Plan { card, usage, seed, runs, list })
+}
+
 fn write_picture(options: &Options) -> Result<(), String> {
     let text = io::read_to_string(io::stdin()).map_err(|error| error.to_string())?;
-    print!("{}", picture::run(&options.program()?, &text)?);
-    Ok(())
+    write_out(&picture::run(&options.program()?, &text)?)
+}
+
+fn write_usage(options: &Options) -> Result<(), String> {
+    let program = options.program()?;
+    let mut records = Vec::new();
+    io::stdin().read_to_end(&mut records).map_err(|error| error.to_string())?;
+    write_out(&usage_table::run(&program, &records)?)
+}
+
+/// `print!` would panic where the output cannot be written.
+fn write_out(text: &str) -> Result<(), String> {
+    io::stdout().write_all(text.as_bytes()).map_err(|error| error.to_string())
 }
 
 fn write_run(command: &str, options: &Options) -> Result<(), String> {
     let (seed, place) = (options.number("seed", 1), options.number("run", 0));
-    let run = if command == "run" {
-        let records = options.number("records", RECORDS);
-        compare_card::run_at(seed, records, place, &mut reached::Reached::default())
-    } else {
-        outside::run_at(seed, place)
+    let prefix = options.number("prefix", u64::MAX) as usize;
+    let input = match command {
+        "run" => {
+            let records = options.number("records", compare_card::RECORDS);
+            usage_runs::of_card(seed, records, place).input(prefix)
+        }
+        "outside-run" => usage_runs::of_outside(seed, place).input(prefix),
+        _ => usage_runs::at(seed, place).input(prefix),
     };
-    io::stdout().write_all(&run.input()).map_err(|error| error.to_string())
+    io::stdout().write_all(&input).map_err(|error| error.to_string())
 }

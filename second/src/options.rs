@@ -1,18 +1,18 @@
-//! The words behind a command: one program and named numbers, as the command's usage has them.
+//! The words behind a command: programs and named numbers, as the command's usage has them.
 
 pub struct Options {
-    program: Option<String>,
+    programs: Vec<String>,
     numbers: Vec<(String, u64)>,
 }
 
 impl Options {
-    /// `usage` is the command's line, with PROGRAM and [--NAME N] for what it takes.
+    /// `usage` is the command's line, with PROGRAM, for each of them, and [--NAME N] for what it takes.
     pub fn read(words: &[String], usage: &str) -> Result<Options, String> {
-        let mut options = Options { program: None, numbers: Vec::new() };
+        let mut options = Options { programs: Vec::new(), numbers: Vec::new() };
         let mut words = words.iter();
         while let Some(word) = words.next() {
             let Some(name) = word.strip_prefix("--") else {
-                options.set_program(word, usage)?;
+                options.add_program(word, usage)?;
                 continue;
             };
             if !usage.contains(&format!("[--{name} ")) {
@@ -24,18 +24,25 @@ impl Options {
         Ok(options)
     }
 
-    fn set_program(&mut self, word: &str, usage: &str) -> Result<(), String> {
-        if !usage.contains("PROGRAM") {
-            return Err(format!("{word} is a word too many"));
-        }
-        match self.program.replace(word.to_string()) {
-            Some(_) => Err(format!("{word} is one program too many")),
-            None => Ok(()),
+    fn add_program(&mut self, word: &str, usage: &str) -> Result<(), String> {
+        match usage.matches("PROGRAM").count() {
+            0 => Err(format!("{word} is a word too many")),
+            most if self.programs.len() == most => Err(format!("{word} is one program too many")),
+            _ => {
+                self.programs.push(word.to_string());
+                Ok(())
+            }
         }
     }
 
     pub fn program(&self) -> Result<String, String> {
-        self.program.clone().ok_or("the program to try is missing".to_string())
+        self.programs().map(|[program]| program)
+    }
+
+    /// As many as the command's usage has.
+    pub fn programs<const COUNT: usize>(&self) -> Result<[String; COUNT], String> {
+        let all = self.programs.clone().try_into();
+        all.map_err(|_| "the program to try is missing".to_string())
     }
 
     pub fn number(&self, name: &str, usual: u64) -> u64 {
@@ -62,5 +69,9 @@ mod tests {
             assert!(read(words, usage).is_err(), "{words}");
         }
         assert!(read("a", "  run [--seed S]").is_err());
+        let both = |words| read(words, "  outside-usage CARD-PROGRAM USAGE-PROGRAM [--seed S]");
+        let given = both("a --seed 3 b").and_then(|options| options.programs());
+        assert_eq!(given, Ok(["a", "b"].map(str::to_string)));
+        assert!(both("a").unwrap().programs::<2>().is_err() && both("a b c").is_err());
     }
 }

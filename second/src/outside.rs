@@ -14,6 +14,7 @@ use crate::reached::Reached;
 use crate::records;
 use crate::refusal::Refusal;
 use crate::row_cases;
+use crate::stay_cases::KINDS;
 use crate::stays::{self, Counts, OfKind, Stay};
 use crate::turns::{Change, Description, MOST_VCPUS};
 use crate::words;
@@ -26,6 +27,7 @@ pub struct Plan {
 }
 
 /// An `ok` line.
+#[derive(Clone, Default)]
 pub struct Told {
     pub time: u64,
     pub run: Option<u32>,
@@ -54,19 +56,21 @@ pub fn read_line(line: &str) -> Result<Result<Told, Refusal>, String> {
 }
 
 /// The rows of the time, which go before those of a call.
-const OF_TIME: [u32; 3] = [1, 2, 3];
+pub const OF_TIME: [u32; 3] = [1, 2, 3];
 
 /// The card seen from outside.
-struct View<'a> {
-    stays: BTreeMap<u32, Stay>,
+pub struct View<'a> {
+    pub stays: BTreeMap<u32, Stay>,
     /// The stays that have ended, in their order, and up to when the identifier is remembered.
-    ended: BTreeMap<u32, Vec<Stay>>,
+    pub ended: BTreeMap<u32, Vec<Stay>>,
     until: BTreeMap<u32, u64>,
-    on_core: Option<u32>,
-    since: u64,
-    late: Late,
+    /// The line of the last accepted call.
+    pub last: Told,
+    /// The ticks that nobody held.
+    pub idle: u64,
+    pub late: Late,
     /// The first total that is not what the ticks held say.
-    wrong_total: Option<String>,
+    pub wrong_total: Option<String>,
     counts: &'a mut Counts,
 }
 
@@ -85,7 +89,7 @@ impl View<'_> {
     }
 
     /// What was accepted, rightly or not.
-    fn follow(&mut self, record: &[u8], told: Result<Told, Refusal>) -> Result<(), String> {
+    pub fn follow(&mut self, record: &[u8], told: Result<Told, Refusal>) -> Result<(), String> {
         match (records::read(record), told) {
             (Ok((call, _)), Ok(told)) => self.accept(&call.change, &told),
             _ => Ok(()),
@@ -147,16 +151,18 @@ impl View<'_> {
     }
 
     fn accept(&mut self, change: &Change, told: &Told) -> Result<(), String> {
-        if told.time < self.since {
+        let since = self.last.time;
+        if told.time < since {
             return Err(format!("the time falls to {}", told.time));
         }
-        if let Some(stay) = self.on_core.and_then(|identifier| self.stays.get_mut(&identifier)) {
-            stay.hold(self.since, told.time, self.counts);
+        match self.last.run.and_then(|identifier| self.stays.get_mut(&identifier)) {
+            Some(stay) => stay.hold(since, told.time, self.counts),
+            None => self.idle += told.time - since,
         }
         self.check_total(told);
-        self.stays.values_mut().for_each(|stay| stay.pass(self.since, told.time));
+        self.stays.values_mut().for_each(|stay| stay.pass(since, told.time));
         self.change(change, told.time)?;
-        (self.on_core, self.since) = (told.run, told.time);
+        self.last = told.clone();
         self.compare_usable(told)?;
         self.check_choice(told)?;
         self.check_timer(told)
@@ -166,7 +172,7 @@ impl View<'_> {
     /// its own.
     fn check_total(&mut self, told: &Told) {
         if self.wrong_total.is_none() {
-            let checked = self.late.check(&self.stays, self.since, told, self.counts);
+            let checked = self.late.check(&self.stays, self.last.time, told, self.counts);
             self.wrong_total = checked.err();
         }
     }
@@ -254,9 +260,9 @@ impl View<'_> {
     }
 }
 
-fn view(counts: &mut Counts) -> View<'_> {
-    let (stays, ended, until, late) = Default::default();
-    View { stays, ended, until, on_core: None, since: 0, late, wrong_total: None, counts }
+pub fn view(counts: &mut Counts) -> View<'_> {
+    let (stays, ended, until, last, late) = Default::default();
+    View { stays, ended, until, last, idle: 0, late, wrong_total: None, counts }
 }
 
 pub fn check_run(run: &Run, output: &str, counts: &mut Counts) -> Result<(), String> {
@@ -303,11 +309,8 @@ pub fn run(plan: &Plan) -> Result<String, String> {
     tell(&counts, plan.runs)
 }
 
-/// By the kind's byte.
-const NAMES: [&str; 3] = ["sporadic", "deferrable", "polling"];
-
 fn tell(counts: &Counts, runs: u64) -> Result<String, String> {
-    for (name, kind) in NAMES.iter().zip(&counts.kinds) {
+    for (name, kind) in KINDS.iter().zip(&counts.kinds) {
         let OfKind { stays, windows, above, across, over, rounds, usable, brought } = kind;
         println!(
             "{name}: {stays} stays, {windows} windows, {above} with more than C, {across} with ticks of two \
@@ -348,7 +351,7 @@ fn missing(counts: &Counts) -> Vec<String> {
         [(back, "returns"), (in_time, "returns in time"), (remembered, "remembered"), (full, "full")];
     let all = lines.into_iter().chain(plain).chain(returns);
     let mut asked: Vec<(u64, String)> = all.map(|(count, what)| (count, what.to_string())).collect();
-    for (name, kind) in NAMES.iter().zip(&counts.kinds) {
+    for (name, kind) in KINDS.iter().zip(&counts.kinds) {
         let OfKind { stays, windows, above, across, over, rounds, usable, brought } = *kind;
         let mut of_kind = vec![(stays, "stays"), (windows, "windows"), (usable, "usable ticks")];
         of_kind.push((brought, "ticks that come back"));
@@ -419,7 +422,7 @@ mod tests {
     fn all_met() -> Counts {
         let (stays, windows, above, across, over) = (1, 1, 1, 1, 1);
         let (rounds, usable, brought) = (1, 1, 1);
-        let kinds = NAMES.map(|_| OfKind { stays, windows, above, across, over, rounds, usable, brought });
+        let kinds = KINDS.map(|_| OfKind { stays, windows, above, across, over, rounds, usable, brought });
         let (choices, timers, totals, late) = (1, 1, 1, 1);
         let (stops, terms, remembered, back, in_time, full) = (1, 1, 1, 1, 1, 1);
         let lines = Counts { choices, timers, totals, late, stops, terms, ..Counts::default() };
@@ -429,7 +432,7 @@ mod tests {
     #[test]
     fn a_run_that_reaches_less_fails() {
         assert!(tell(&all_met(), 1).is_ok());
-        for (place, name) in NAMES.iter().enumerate() {
+        for (place, name) in KINDS.iter().enumerate() {
             let mut counts = all_met();
             counts.kinds[place] = OfKind::default();
             let lost = missing(&counts);

@@ -39,9 +39,20 @@ impl Reached {
     }
 
     /// Each case asked for and how often it was met.
-    pub fn list(&self, asked: &[String]) {
+    fn list(&self, asked: &[String]) {
         for case in asked {
             println!("{:>9} {case}", self.count(case));
+        }
+    }
+
+    /// Fails where a case asked for was not met; they can be listed before that.
+    pub fn demand(&self, asked: &[String], seed: u64, list: bool) -> Result<(), String> {
+        if list {
+            self.list(asked);
+        }
+        match &self.missing(asked)[..] {
+            [] => Ok(()),
+            missing => Err(format!("seed {seed}: cases not reached: {}", missing.join(", "))),
         }
     }
 

@@ -8,7 +8,7 @@ use crate::turns::{LARGEST_PERIOD, LARGEST_TIME, MOST_VCPUS};
 /// The rows of admit in their order; row 4 is out of a record's reach.
 pub const OF_ADMIT: [u32; 7] = [5, 11, 12, 10, 6, 9, 8];
 /// All rows that a record can meet.
-const IN_ORDER: [u32; 11] = [1, 2, 3, 5, 11, 12, 10, 6, 9, 7, 8];
+pub const IN_ORDER: [u32; 11] = [1, 2, 3, 5, 11, 12, 10, 6, 9, 7, 8];
 
 const MOST: u32 = u32::MAX;
 

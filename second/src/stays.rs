@@ -2,6 +2,7 @@
 //! and together with other stays of its identifier, how long it is remembered, and the usable
 //! ticks and those that come back, which follow from the ticks held.
 
+use crate::stay_cases::KINDS;
 use crate::turns::{Description, MOST_PENDING};
 
 /// An unbroken run of ticks; a sporadic one's is cut one period behind its start.
@@ -117,6 +118,10 @@ impl Stay {
 
     pub fn is_sporadic(&self) -> bool {
         self.kind == Kind::Sporadic
+    }
+
+    pub fn kind(&self) -> &'static str {
+        KINDS[self.kind.byte()]
     }
 
     /// What is counted of its kind.
@@ -241,17 +246,27 @@ impl Stay {
         }
     }
 
-    /// Whether all ticks that it held have come back, folded or not.
-    pub fn has_all_back(&self, moment: u64) -> bool {
-        self.pending(moment).next().is_none()
+    /// The ticks of the slices whose period is not over.
+    pub fn pending_ticks(&self, moment: u64) -> u64 {
+        self.pending(moment).map(|slice| slice.end - slice.start).sum()
+    }
+
+    /// Ticks of a fold come back later than their slices say, but with the latest slice all are back.
+    pub fn may_be_late(&self, moment: u64) -> bool {
+        self.folded && self.pending(moment).next().is_some()
     }
 
     pub fn usable(&self, moment: u64) -> u64 {
         let spent = match self.kind {
-            Kind::Sporadic => self.pending(moment).map(|slice| slice.end - slice.start).sum(),
+            Kind::Sporadic => self.pending_ticks(moment),
             _ => self.spent(self.round(moment)),
         };
         self.capacity.saturating_sub(spent)
+    }
+
+    /// From its admission on.
+    pub fn ticks(&self) -> u64 {
+        self.held(self.admitted, u64::MAX)
     }
 
     fn held(&self, from: u64, to: u64) -> u64 {

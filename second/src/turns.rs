@@ -1,9 +1,11 @@
-//! Turns: the section "What a call does" of the scope paper with requests 1 to 5, read plainly. A
+//! Turns: the section "What a call does" of the scope paper with requests 1 to 6, read plainly. A
 //! VCPU keeps what it used and since when it is runnable; what is pending or usable at a
 //! moment is counted from that, so that the step "Return", refills included, is the passing
 //! of time: what it brought is what is usable more at its end than at its start. What is
 //! remembered of a removed one is a time, and whether that has come is counted in the same way.
+//! The totals of request 6 are counted from the history when they are asked for.
 
+use crate::history::History;
 use crate::refusal::{refuse, refuse_with, Refusal};
 use std::collections::BTreeMap;
 
@@ -136,6 +138,7 @@ impl Round {
 #[derive(Clone, Debug)]
 pub struct Vcpu {
     pub description: Description,
+    admitted: u64,
     /// The call from which on it has been runnable, if it is.
     woken: Option<u64>,
     kept: Kept,
@@ -151,7 +154,7 @@ impl Vcpu {
             2 => Kept::Polling(round),
             _ => return None,
         };
-        Some(Vcpu { description, woken: None, kept })
+        Some(Vcpu { description, admitted: now, woken: None, kept })
     }
 
     pub fn runnable(&self) -> bool {
@@ -184,10 +187,15 @@ impl Vcpu {
         self.pending(moment).count()
     }
 
+    /// The ticks of all entries that are pending at a moment.
+    pub fn pending_total(&self, moment: u64) -> u64 {
+        self.pending(moment).map(|entry| entry.amount).sum()
+    }
+
     pub fn usable(&self, moment: u64) -> u64 {
         let capacity = u64::from(self.description.capacity);
         match &self.kept {
-            Kept::Sporadic { .. } => capacity - self.pending(moment).map(|entry| entry.amount).sum::<u64>(),
+            Kept::Sporadic { .. } => capacity - self.pending_total(moment),
             Kept::Deferrable(round) => capacity - round.used(moment),
             Kept::Polling(round) if self.polled(round, moment) => capacity - round.used(moment),
             Kept::Polling(_) => 0,
@@ -329,6 +337,7 @@ pub struct Core {
     /// What steps 1 and 2 of the last accepted call did.
     pub charged: Charged,
     pub reports: Vec<Report>,
+    history: History,
 }
 
 impl Core {
@@ -342,12 +351,14 @@ impl Core {
             remembered: BTreeMap::new(),
             charged: Charged::Nobody,
             reports: Vec::new(),
+            history: History::default(),
         }
     }
 
     pub fn call(&mut self, call: &Call) -> Result<Reply, Refusal> {
         self.validate_time(call.time)?;
         self.validate_change(call)?;
+        self.history.add(self.running, self.last, call.time);
         self.charge(call.time);
         let report = |vcpu: &Vcpu| vcpu.report(self.last, call.time);
         self.reports = self.vcpus.values().map(report).collect();
@@ -467,6 +478,21 @@ impl Core {
     fn choose(&self) -> Option<u32> {
         let able = self.vcpus.values().filter(|vcpu| vcpu.runnable() && vcpu.usable(self.last) > 0);
         able.min_by_key(|vcpu| vcpu.urgency()).map(|vcpu| vcpu.description.identifier)
+    }
+
+    /// The ticks that one on the card has held since its admission.
+    pub fn held(&self, vcpu: &Vcpu) -> u64 {
+        self.history.held(vcpu.description.identifier, vcpu.admitted)
+    }
+
+    /// The ticks that all stays held which have ended.
+    pub fn held_by_removed(&self) -> u64 {
+        self.history.removed(|identifier| self.vcpus.get(&identifier).map(|vcpu| vcpu.admitted))
+    }
+
+    /// The ticks up to the last accepted call during which nobody held the core.
+    pub fn idle(&self) -> u64 {
+        self.history.idle()
     }
 
     pub fn chosen(&self) -> Option<&Vcpu> {

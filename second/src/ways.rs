@@ -25,6 +25,12 @@ pub struct Way {
 }
 
 impl Way {
+    /// The same for a program that says nothing before its reading ends.
+    pub fn silent(mut self) -> Way {
+        self.parts.iter_mut().for_each(|(_, awaited)| *awaited = 0);
+        self
+    }
+
     /// What the program writes. But for the closed pipe, the input stays open until it has
     /// ended.
     pub fn send(&self, program: &str, limit: Duration) -> Result<Vec<u8>, String> {

@@ -176,6 +176,103 @@ fn a_card_with_another_total_is_seen() {
     }
 }
 
+/// Enough for every case: the scripts come first.
+const ON_USAGE: [&str; 5] = ["compare-usage", "--runs", "150", "--wait", SHORT];
+
+#[test]
+fn a_right_usage_agrees_and_one_that_reads_on_is_seen() {
+    let right = said(&ON_USAGE, "usage", &[]).unwrap();
+    assert!(right.contains("outputs agree"), "{right}");
+    let fault = said(&ON_USAGE, "usage_reads_on", &[]).unwrap_err();
+    assert!(fault.contains("has not ended"), "{fault}");
+}
+
+/// A number that is another, lines that are missing, twice or otherwise written, and the card's own.
+#[test]
+fn a_usage_with_another_line_is_seen() {
+    let edits = [
+        ("s/^time .*/time 0/", "second:  time "),
+        ("s/^idle 1000000000000$/idle 3567587328/", "second:  idle 1000000000000"),
+        ("s/^removed [1-9].*/removed 0/", "second:  removed "),
+        ("s/^tenants [1-9].*/tenants 0/", "second:  tenants "),
+        ("s/ held [1-9][0-9]*/ held 0/", "second:  tenant "),
+        ("s/ pending [1-9][0-9]*/ pending 0/", "second:  tenant "),
+        ("s/ usable [0-9]*$//", "second:  tenant "),
+        ("s/^tenant (.*)$/tenant 0\\1/", "second:  tenant "),
+        ("/^no 21/d", "second:  no 21 "),
+        ("s/^no 22 .*/no 22 0/", "second:  no 22 "),
+        ("s/^(no .*)$/\\1\\n\\1/", "a line too many: no "),
+        ("s/$/ /", "line 1 differs"),
+    ];
+    for (edit, what) in edits {
+        let fault = answered_otherwise(&ON_USAGE, "usage-lines", edit).unwrap_err();
+        assert!(fault.contains(what), "{edit}: {fault}");
+    }
+    let fault = said(&ON_USAGE, "card", &[]).unwrap_err();
+    assert!(fault.contains("line 1 differs"), "{fault}");
+}
+
+/// What stands at the end of a fault makes the same input again.
+#[test]
+fn a_run_of_usage_is_made_again() {
+    let edit = "s/ held 42989[0-9]{5} / held 4000007 /";
+    let fault = answered_otherwise(&ON_USAGE, "usage-lines", edit).unwrap_err();
+    let again = fault.lines().last().and_then(|line| line.trim().strip_prefix("again:   second ")).unwrap();
+    let (run, _) = again.split_once(" | ").unwrap();
+    let lines = piped(&format!("\"$SECOND\" {run} | \"$SECOND\" usage-lines"));
+    assert!(fault.contains(lines.lines().last().unwrap()), "{fault}: {lines}");
+}
+
+/// What `outside-usage` says to a right card and the second program's own totals, changed so.
+fn usage_from_outside(edit: &str) -> Result<String, String> {
+    let card = format!("{}/tests/stand_ins/card", env!("CARGO_MANIFEST_DIR"));
+    answered_otherwise(&["outside-usage", "--runs", "400", &card], "usage-lines", edit)
+}
+
+#[test]
+fn totals_are_held_to_the_lines_of_a_card() {
+    let right = usage_from_outside("").unwrap();
+    assert!(right.contains("are what the card's lines say"), "{right}");
+    let edits = [
+        ("s/^time .*/time 0/", "second:  time "),
+        ("s/^idle [1-9].*/idle 0/", "second:  idle "),
+        ("s/^removed [1-9].*/removed 0/", "second:  removed "),
+        ("s/ held [1-9][0-9]*/ held 0/", "second:  tenant "),
+        ("s/ pending [1-9][0-9]*/ pending 0/", "second:  tenant "),
+        ("s/ usable [1-9][0-9]*$/ usable 0/", "second:  tenant "),
+        ("/^no 21/d", "second:  no 21 "),
+        ("s/ usable [0-9]*$//", "no line of the totals"),
+        ("s/^tenants 2$/tenants 1/", "not the lines of the totals"),
+    ];
+    for (edit, what) in edits {
+        let fault = usage_from_outside(edit).unwrap_err();
+        assert!(fault.contains(what) && fault.contains("again:   second outside-run "), "{edit}: {fault}");
+    }
+}
+
+/// What a line of the shell writes.
+fn piped(line: &str) -> String {
+    let second = env!("CARGO_BIN_EXE_second");
+    let done = Command::new("sh").args(["-c", line]).env("SECOND", second).output().expect("a shell starts");
+    String::from_utf8(done.stdout).expect("text")
+}
+
+#[test]
+fn a_table_tells_whose_work_it_was() {
+    let records = "admit 0 id 9 T 10 C 3 pr 1\\nwake 1 id 9\\ntick 4\\nbytes 07 00 00\\n";
+    let usage = format!("{}/tests/stand_ins/usage", env!("CARGO_MANIFEST_DIR"));
+    let table = piped(&format!("printf '{records}' | \"$SECOND\" words | \"$SECOND\" usage '{usage}'"));
+    let lines: Vec<Vec<&str>> = table.lines().map(|line| line.split_whitespace().collect()).collect();
+    assert_eq!(lines[1], ["9", "3", "75.0%", "3", "0"]);
+    assert_eq!(
+        (lines[3].as_slice(), lines[4].as_slice()),
+        (&["idle", "1", "25.0%"][..], &["time", "4", "100.0%"][..])
+    );
+    assert_eq!(table.lines().last(), Some("byte 49: the tag is unknown"));
+    let wrong = answered_otherwise(&["usage"], "usage-lines", "s/^idle 0/idle 3/").unwrap_err();
+    assert!(wrong.contains("3 together, and the time is 0"), "{wrong}");
+}
+
 #[test]
 fn a_sizing_with_another_place_is_seen() {
     let edits = [

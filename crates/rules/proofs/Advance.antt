@@ -22,19 +22,19 @@ use Rattle.rules.specs.Refuse.{callRows}
 use Rattle.rules.specs.Turn.{afterReturn}
 use Rattle.rules.specs.Meaning.{OnTheCard}
 use Rattle.rules.specs.History.{ticks, holds}
-use Rattle.rules.specs.Stays.{Stay, lasts, lastsAs, owns, held, EachTick, owners}
+use Rattle.rules.specs.Stays.{Stay, lasts, lastsAs, owns, held, heldTicks, EachTick, owners}
 use Rattle.rules.specs.Slices.{slices, everFolds}
 use Rattle.rules.specs.Demand3.{hasToFold, foldsAt}
 use Rattle.rules.proofs.Tests.{tests, cases, and-true, and-right, and-one, or-none}
 use Rattle.rules.proofs.Named.{named-says, is-named}
-use Rattle.rules.proofs.ThreeKinds.{terms-returned, runnable-returned, returned-none}
+use Rattle.rules.proofs.ThreeKinds.{terms-returned, runnable-returned, held-returned, returned-none}
 use Rattle.rules.proofs.Lists.{all-imp, all-both, all-every, all-map-both, all-map-among, all-among, among-all, any-same, any-only}
 use Rattle.rules.proofs.Lists.{among-map, map-among, some-one, count-same, count-among, count-none, length-ticks}
 use Rattle.rules.proofs.Slices.{slices-idle}
 use Rattle.rules.proofs.Sound.{Orderly, Sound, orderly-later, kept-charged, sound-returned}
 use Rattle.rules.proofs.Tied.{Tied, tied-return, tied-idle, tied-charged, within-charged, folds-there}
 use Rattle.rules.proofs.Window.{Within, within-idle}
-use Rattle.rules.proofs.Held.{Dated, length-held, owns-now, held-more, each-more}
+use Rattle.rules.proofs.Held.{Dated, length-held, owns-now, held-more, held-on, held-off, each-more}
 use Rattle.rules.proofs.Lawful.{Pair, Paired, Bounded, Lawful}
 
 -- what step 1, and steps 1 and 2, do to one VCPU
@@ -70,6 +70,15 @@ terms-charged last now v = go (noTicks last now)
     go : (b : Bool) → cond b v (chargedSome last now v) .terms ≡ v .terms
     go true = refl
     go false = refl
+
+-- a charge of d ticks adds them to the held total
+pub held-charged : (last d : ℕ) (v : Vcpu) → charged last (last + d) v .heldTotal ≡ v .heldTotal + d
+unfolding charged
+held-charged last d v = go (noTicks last (last + d)) refl
+  where
+    go : (b : Bool) → noTicks last (last + d) ≡ b → cond b v (chargedSome last (last + d) v) .heldTotal ≡ v .heldTotal + d
+    go true z = omega (arith, tests)
+    go false z = omega arith
 
 pub terms-charged-if : (last now : ℕ) (o : Option ℕ) (v : Vcpu) → chargedIf last now o v .terms ≡ v .terms
 terms-charged-if last now o v = go (holds (v .terms .tunnel) o)
@@ -154,11 +163,13 @@ module _ (c : Card) (d : ℕ) (ss : List Stay) (h : List (Option ℕ)) (l : Lawf
   -- a VCPU before its return, and what ties it to its stay
   pair-return : (s : Stay) (b : Bool) (w : Vcpu) (low high : ℕ) → w .terms ≡ s .terms → Orderly low high (c .last + d) w
       → held s (ticks d (c .running) h) ≡ ticks d b (held s h)
+      → w .heldTotal ≡ heldTicks (ticks d b (held s h))
       → (w .terms .kind ≡ 0 → Tied (w .terms .period) (c .last + d) (w .ended) (w .pending) (ticks d b (held s h)))
       → Pair (c .last + d) s (returned (c .last + d) w) (ticks d (c .running) h)
-  pair-return s b w low high e k g t =
+  pair-return s b w low high e k g n t =
       record {
         same-terms = terms-returned (c .last + d) w ∙ e;
+        held-total = held-returned (c .last + d) w ∙ n ∙ ap heldTicks (sym g);
         tied = λ i. back (ap (λ x. x .kind) (sym (terms-returned (c .last + d) w)) ∙ i);
       }
     where
@@ -192,6 +203,7 @@ module _ (c : Card) (d : ℕ) (ss : List Stay) (h : List (Option ℕ)) (l : Lawf
           (pair-return s true (charged (c .last) (c .last + d) v)
           (suc (c .last)) (c .last + v .terms .period) (tw ∙ p .same-terms) (kept-charged (c .last) d v k sv)
           (held-step s true g u r′)
+          (omega (arith, held-charged (c .last) d v, p .held-total, held-on d (held s h)))
           (rw tw (λ i. tied-charged (c .last) d v (held s h) i n sv k (p .tied i))))
 
       waited : holds (v .terms .tunnel) (c .running) ≡ false
@@ -202,6 +214,7 @@ module _ (c : Card) (d : ℕ) (ss : List Stay) (h : List (Option ℕ)) (l : Lawf
           (pair-return s false v (suc (c .last)) (c .last + v .terms .period) (p .same-terms)
           (orderly-later (suc (c .last)) (c .last + v .terms .period) (c .last) (c .last + d) v (omega arith) sv)
           (held-step s false g u r′)
+          (omega (arith, p .held-total, held-off d (held s h)))
           (λ i. tied-idle (v .terms .period) (c .last) d (v .ended) (v .pending) (held s h) n (sv .used) (p .tied i)))
 
   paired-step : (s : Stay) → Dated (c .last) s → Paired (c .last) (c .vcpus) h s

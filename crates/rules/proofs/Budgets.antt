@@ -27,9 +27,9 @@ use Rattle.rules.specs.Budgets.{FirstAfter, Refill, before, full, empty,
 use Rattle.rules.proofs.Tests.{tests, clash, no-some, cases}
 use Rattle.rules.proofs.Named.{not-named}
 use Rattle.rules.proofs.Lists.{all-among, among-map, map-among, among-keep, keep-among}
-use Rattle.rules.proofs.Queue.{total, Rising, joins-says, posts, stays-behind}
+use Rattle.rules.proofs.Queue.{total, Rising, joins-says, posts, brought-all, stays-behind}
 use Rattle.rules.proofs.ThreeKinds.{is-sporadic, not-sporadic, by-kind, by-polling, leaves-most, leaves-all, leaves-none}
-use Rattle.rules.proofs.ThreeKinds.{boundary-after, terms-returned, runnable-returned, returned-none}
+use Rattle.rules.proofs.ThreeKinds.{boundary-after, terms-returned, runnable-returned, held-returned, returned-none}
 use Rattle.rules.proofs.Meaning.{rising-all}
 use Rattle.rules.proofs.Sound.{Sound}
 use Rattle.rules.proofs.Accepted.{passed, in-time}
@@ -207,15 +207,19 @@ Marked v w = (w ≡ v) ⊎ ((b : Bool) × (w ≡ setRunnable b v))
 
 -- the same but for terms and mark
 abbrev Same : Vcpu → Vcpu → Type 0
-Same w u = (w .usable ≡ u .usable) × (w .ended ≡ u .ended) × (w .pending ≡ u .pending) × (w .boundary ≡ u .boundary)
+Same w u =
+    (w .usable ≡ u .usable) × (w .ended ≡ u .ended) × (w .pending ≡ u .pending) × (w .boundary ≡ u .boundary)
+    × (w .pendingTotal ≡ u .pendingTotal)
 
-same-vcpu : (w u : Vcpu) → w .terms ≡ u .terms → w .runnable ≡ u .runnable → Same w u → w ≡ u
-same-vcpu w u t m p = go (w .terms) (w .runnable) (w .usable) (w .ended) (w .pending) (w .boundary) t m p
+same-vcpu : (w u : Vcpu) → w .terms ≡ u .terms → w .runnable ≡ u .runnable → w .heldTotal ≡ u .heldTotal → Same w u → w ≡ u
+same-vcpu w u t m h p =
+    go (w .terms) (w .runnable) (w .usable) (w .ended) (w .pending) (w .boundary) (w .pendingTotal) (w .heldTotal) t m h p
   where
-    go : (a : Description) (b : Bool) (x y : ℕ) (q : List Entry) (o : Option ℕ) → a ≡ u .terms → b ≡ u .runnable
-        → (x ≡ u .usable) × (y ≡ u .ended) × (q ≡ u .pending) × (o ≡ u .boundary)
-        → record { terms = a; runnable = b; usable = x; ended = y; pending = q; boundary = o } ≡ u
-    go a b x y q o e f p = rw (e, f, p .0, p .1, p .2, p .3)
+    go : (a : Description) (b : Bool) (x y : ℕ) (q : List Entry) (o : Option ℕ) (n k : ℕ) → a ≡ u .terms → b ≡ u .runnable
+        → k ≡ u .heldTotal
+        → (x ≡ u .usable) × (y ≡ u .ended) × (q ≡ u .pending) × (o ≡ u .boundary) × (n ≡ u .pendingTotal)
+        → record { terms = a; runnable = b; usable = x; ended = y; pending = q; boundary = o; pendingTotal = n; heldTotal = k } ≡ u
+    go a b x y q o n k e f g p = rw (e, f, g, p .0, p .1, p .2, p .3, p .4)
 
 module _ (c : Card) (now : ℕ) (v : Vcpu) where
   -- `u` is `v` after the charge with `d` ticks, before the return
@@ -224,14 +228,19 @@ module _ (c : Card) (now : ℕ) (v : Vcpu) where
     same-mark : u .runnable ≡ v .runnable
     same-boundary : u .boundary ≡ v .boundary
     usable : u .usable + d ≡ v .usable
+    held-total : u .heldTotal ≡ v .heldTotal + d
+    pending-total : v .terms .kind ≡ 0 → u .pendingTotal ≡ v .pendingTotal + d
+    adds : u .pendingTotal ≡ total (u .pending)
     use-ends : v .terms .kind ≡ 0 → (0 < d → u .ended ≡ now) × (d ≡ 0 → u .ended ≡ v .ended)
     posted : v .terms .kind ≡ 0 → Posted (c .last) d v (u .pending)
     order : Rising low high (u .pending)
-    no-queue : (v .terms .kind ≡ 0 → ⊥) → (u .pending ≡ []) × (u .ended ≡ 0)
+    no-queue : (v .terms .kind ≡ 0 → ⊥) → (u .pending ≡ []) × (u .ended ≡ 0) × (u .pendingTotal ≡ v .pendingTotal)
 
   -- of a deferrable or polling VCPU, after steps 1 and 2
   abbrev Filled : ℕ → Vcpu → Type 0
-  Filled d u = (next : ℕ) × Refill now d v next (u .usable) × (u .boundary ≡ some next) × (u .pending ≡ []) × (u .ended ≡ 0)
+  Filled d u =
+      (next : ℕ) × Refill now d v next (u .usable) × (u .boundary ≡ some next) × (u .pending ≡ []) × (u .ended ≡ 0)
+      × (u .pendingTotal ≡ v .pendingTotal)
 
   -- `u` is `v` after steps 1 and 2
   record Stepped (u : Vcpu) : Type 0 where
@@ -240,6 +249,7 @@ module _ (c : Card) (now : ℕ) (v : Vcpu) where
     ticks : ℕ
     loses : Loses c now v ticks
     has-them : ticks ≤ v .usable
+    held-total : u .heldTotal ≡ v .heldTotal + ticks
     sporadic : v .terms .kind ≡ 0 → Queued (c .last) now ticks v u
     refilled : (v .terms .kind ≡ 0 → ⊥) → Filled ticks u
 
@@ -252,6 +262,7 @@ module _ (c : Card) (now : ℕ) (v : Vcpu) where
           ticks = d;
           loses = l;
           has-them = omega (arith, k .usable);
+          held-total = held-returned now u ∙ k .held-total;
           sporadic = λ z. let e : u .boundary ≡ none = k .same-boundary ∙ s .sporadic z .0 in
               subst (Queued (c .last) now d v) (sym (returned-none now u e)) (queued e z);
           refilled = λ n. let r = s .refills n in
@@ -270,8 +281,13 @@ module _ (c : Card) (now : ℕ) (v : Vcpu) where
               are-due = p .2;
               to-come = rising-all _ high (still now (u .pending)) (stays-behind now low high (u .pending) (k .order) .order);
               usable = omega (arith, p .3, k .usable);
+              pending-total = omega (arith, p .3, k .pending-total z, k .adds, brought-all now (u .pending));
               no-boundary = e;
             }
+
+        -- without a queue nothing returns
+        none-less : (v .terms .kind ≡ 0 → ⊥) → u .pendingTotal - brought now (u .pending) ≡ u .pendingTotal
+        none-less n = omega (arith, ap (brought now) (k .no-queue n .0))
 
         filled : (v .terms .kind ≡ 0 → ⊥) → (b : ℕ) → u .boundary ≡ some b → v .boundary ≡ some b → (t : Bool) → leb b now ≡ t
             → Filled d (cond t (refilled now b (broughtIn now u)) (broughtIn now u))
@@ -281,11 +297,18 @@ module _ (c : Card) (now : ℕ) (v : Vcpu) where
           refl,
           ap (still now) (k .no-queue n .0),
           k .no-queue n .1,
+          none-less n ∙ k .no-queue n .2,
         )
         filled n b e f false t =
             let q : brought now (u .pending) ≡ 0 = ap (brought now) (k .no-queue n .0) in
-            let g : v .usable - d ≡ u .usable + brought now (u .pending) = omega (arith, k .usable) in
-            (b, subst (Refill now d v b) g (before b f (leb-false b now t)), e, ap (still now) (k .no-queue n .0), k .no-queue n .1)
+            let g : v .usable - d ≡ u .usable + brought now (u .pending) = omega (arith, k .usable) in (
+              b,
+              subst (Refill now d v b) g (before b f (leb-false b now t)),
+              e,
+              ap (still now) (k .no-queue n .0),
+              k .no-queue n .1,
+              none-less n ∙ k .no-queue n .2,
+            )
 
     -- no ticks are lost
     not-charged : (d : ℕ) → d ≡ 0 → Charged d (suc (c .last)) (c .last + v .terms .period) v
@@ -295,10 +318,13 @@ module _ (c : Card) (now : ℕ) (v : Vcpu) where
           same-mark = refl;
           same-boundary = refl;
           usable = omega arith;
+          held-total = omega arith;
+          pending-total = λ e. omega arith;
+          adds = s .adds;
           use-ends = λ e. (λ h. absurd (omega arith), λ h. refl);
           posted = λ e. nothing z;
           order = s .order;
-          no-queue = λ n. (s .refills n .0, s .refills n .1);
+          no-queue = λ n. (s .refills n .0, s .refills n .1, refl);
         }
 
     some-charged : 0 < now - c .last → now ≤ c .last + v .usable
@@ -309,13 +335,19 @@ module _ (c : Card) (now : ℕ) (v : Vcpu) where
           same-mark = refl;
           same-boundary = refl;
           usable = omega arith;
+          held-total = refl;
+          pending-total = λ e. rw (is-sporadic (v .terms) e);
+          adds = by-kind (v .terms)
+              (λ e. rw (is-sporadic (v .terms) e)
+              (omega (arith, posts (c .last) (now - c .last) v (s .range .period-low) (s .order) (s .few) .in-all, s .adds)))
+              (λ n. rw (not-sporadic (v .terms) n) (s .adds));
           use-ends = λ e. (λ z. rw (is-sporadic (v .terms) e), λ z. absurd (omega arith));
           posted = λ e. rw (is-sporadic (v .terms) e) (posts-so (c .last) (now - c .last) v h (s .few));
           order = by-kind (v .terms)
               (λ e. rw (is-sporadic (v .terms) e)
               (posts (c .last) (now - c .last) v (s .range .period-low) (s .order) (s .few) .order))
               (λ n. rw (not-sporadic (v .terms) n) (s .order));
-          no-queue = λ n. rw (not-sporadic (v .terms) n) (s .refills n .0, s .refills n .1);
+          no-queue = λ n. rw (not-sporadic (v .terms) n) (s .refills n .0, s .refills n .1, refl);
         }
 
     waited : (c .running ≡ some (v .terms .tunnel) → ⊥) → Stepped (returned now v)
@@ -356,7 +388,7 @@ module _ (c : Card) (now : ℕ) (v : Vcpu) where
 
       -- without a mark of its own it is as if marked again: a polling VCPU that was not runnable had no ticks left to take
       marked-again : setRunnable (u .runnable) u ≡ u
-      marked-again = same-vcpu (setRunnable (u .runnable) u) u refl refl (kept, refl, refl, refl)
+      marked-again = same-vcpu (setRunnable (u .runnable) u) u refl refl refl (kept, refl, refl, refl, refl)
         where
           kept : leaves (u .terms) (u .runnable) (u .usable) ≡ u .usable
           kept =
@@ -373,6 +405,7 @@ module _ (c : Card) (now : ℕ) (v : Vcpu) where
             ticks = k .ticks;
             loses = k .loses;
             has-them = k .has-them;
+            held-total = k .held-total;
             sporadic = λ z. queued z (k .sporadic z);
             refilled = λ n. let r = k .refilled n in
                 record {
@@ -384,6 +417,7 @@ module _ (c : Card) (now : ℕ) (v : Vcpu) where
                   usable = leaves-all (u .terms) b (u .usable);
                   no-queue = r .3;
                   no-use = r .4;
+                  same-pending-total = r .5;
                 };
           }
         where
@@ -401,6 +435,7 @@ module _ (c : Card) (now : ℕ) (v : Vcpu) where
                   q .usable,
                   leaves-all (u .terms) b (u .usable) (λ e. let f = of-v 2 e in absurd (omega arith)),
                 );
+                pending-total = q .pending-total;
                 no-boundary = q .no-boundary;
               }
 
@@ -425,6 +460,7 @@ module _ (c : Card) (now : ℕ) (v : Vcpu) where
             (λ z. f .use-ends (omega (arith, tests)) ∙ sym (g .use-ends (omega (arith, tests)))) (cases (eqb d 0)),
         sym (a .0) ∙ ap (still now) q ∙ b .0,
         f .no-boundary ∙ sym (g .no-boundary),
+        omega (arith, f .pending-total, g .pending-total, a .1, b .1, ap (brought now) q),
       )
 
   same-refilled : (d : ℕ) (w u : Vcpu) → w .terms ≡ u .terms → w .runnable ≡ u .runnable → Refilled now d v w → Refilled now d v u
@@ -436,6 +472,7 @@ module _ (c : Card) (now : ℕ) (v : Vcpu) where
         f .no-use ∙ sym (g .no-use),
         f .no-queue ∙ sym (g .no-queue),
         f .boundary ∙ ap some (p .0) ∙ sym (g .boundary),
+        f .same-pending-total ∙ sym (g .same-pending-total),
       )
     where
       kind : w .terms .kind ≡ u .terms .kind
@@ -444,7 +481,7 @@ module _ (c : Card) (now : ℕ) (v : Vcpu) where
   -- two that fit, with the same mark, are the same: the mark is step 3's, and nothing else is left open
   pub one-budget : (w u : Vcpu) → w .runnable ≡ u .runnable → Budget c now v w → Budget c now v u → w ≡ u
   one-budget w u m f g =
-      same-vcpu w u terms m
+      same-vcpu w u terms m (omega (arith, f .held-total, g .held-total, d))
       (by-kind (v .terms)
       (λ z. same-queued (g .ticks) w u (subst (λ (k : ℕ). Queued (c .last) now k v w) d (f .sporadic z)) (g .sporadic z))
       (λ n. same-refilled (g .ticks) w u terms m (subst (λ (k : ℕ). Refilled now k v w) d (f .refilled n)) (g .refilled n)))

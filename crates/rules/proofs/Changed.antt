@@ -17,7 +17,7 @@ use Rattle.rules.specs.Card.{toNamed}
 use Rattle.rules.specs.Change.{Change, admit, wake, block, remove, tick, placed, setRunnable, change}
 use Rattle.rules.specs.Refuse.{callRows}
 use Rattle.rules.specs.History.{ticks, isIdle}
-use Rattle.rules.specs.Stays.{Stay, lasts, lastsAs, withEnd, changeStays, owns, held, owners}
+use Rattle.rules.specs.Stays.{Stay, lasts, lastsAs, withEnd, changeStays, owns, held, heldTicks, owners}
 use Rattle.rules.specs.Slices.{recent, returnsOf}
 use Rattle.rules.proofs.Tests.{clash, no-some, cases}
 use Rattle.rules.proofs.Named.{named-says, is-named, not-named}
@@ -27,7 +27,7 @@ use Rattle.rules.proofs.Slices.{begun-idle, begun-none, going, going-ga
 use Rattle.rules.proofs.Sound.{Sound, sound-admitted, sound-set}
 use Rattle.rules.proofs.Window.{within-none, within-idle}
 use Rattle.rules.proofs.Accepted.{Admits, admits}
-use Rattle.rules.proofs.Held.{Dated, held-new, held-end, owns-none, owns-end, each-imp}
+use Rattle.rules.proofs.Held.{Dated, held-new, held-end, held-off, owns-none, owns-end, each-imp}
 use Rattle.rules.proofs.Lawful.{Pair, Paired, Bounded, Lawful}
 
 -- a newcomer is one more, wherever it is placed
@@ -115,7 +115,7 @@ module _ (now : ℕ) (vs : List Vcpu) (ss : List Stay) (h : List (Option ℕ)) (
         dated = l .dated;
         paired = all-imp (λ s p u. all-map (λ v. v .terms .tunnel ≡ s .terms .tunnel → Pair now s v h) mark
             (λ v q. pick (λ v. v .terms .tunnel ≡ s .terms .tunnel → Pair now s v h) v
-            (λ q e. record { same-terms = q e .same-terms; tied = q e .tied }) q) vs (p u)) ss (l .paired);
+            (λ q e. record { same-terms = q e .same-terms; held-total = q e .held-total; tied = q e .tied }) q) vs (p u)) ss (l .paired);
         bounded = l .bounded;
         owned = l .owned;
       }
@@ -158,6 +158,7 @@ module _ (now : ℕ) (vs : List Vcpu) (ss : List Stay) (h : List (Option ℕ)) (
     new-pair =
         record {
           same-terms = refl;
+          held-total = sym (ap heldTicks held-nothing ∙ held-off (length h) []);
           tied = λ i. rw held-nothing
               (record {
                 at-most = λ x k. omega (arith, begun-idle (d .period) x (length h) [], begun-none (d .period) x);
@@ -282,6 +283,7 @@ module _ (now : ℕ) (vs : List Vcpu) (ss : List Stay) (h : List (Option ℕ)) (
             all-keep (λ v. v .terms .tunnel ≡ s .terms .tunnel → Pair now (withEnd now t s) v h) (other t) vs
             (all-imp (λ v q e. record {
               same-terms = q e .same-terms;
+              held-total = q e .held-total ∙ ap heldTicks (sym (held-end now t s h (omega (arith, l .long))));
               tied = λ i. rw (held-end now t s h (omega (arith, l .long))) (q e .tied i);
             }) vs
             (p (goes-on s u .0)))

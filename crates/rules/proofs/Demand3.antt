@@ -103,6 +103,7 @@ module _ (calls : List Call) where
             one-of-them = n;
             lasting = until-none (s .until) (a .0);
             same-terms = p .same-terms;
+            held-total = p .held-total;
             at-most-capacity = all-among (λ s. Sporadic (s .terms) → AtMostCapacity xs s) (stays xs) (l .bounded) s n;
             usable-budget = budget s v k p;
             pending-slices = one-for-one s v k p;

@@ -24,7 +24,16 @@ use Rattle.rules.proofs.Case.{says, no′}
 
 -- document 01's rule: nobody is remembered when a call comes
 abbrev forgetting : Card → Card
-forgetting c = record { last = c .last; running = c .running; timer = c .timer; vcpus = c .vcpus; remembered = [] }
+forgetting c =
+    record {
+      last = c .last;
+      running = c .running;
+      timer = c .timer;
+      vcpus = c .vcpus;
+      remembered = [];
+      removed = c .removed;
+      idle = c .idle;
+    }
 
 abbrev after01 : List Call → Card
 after01 [] = empty

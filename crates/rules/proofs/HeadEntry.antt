@@ -28,6 +28,8 @@ chargedHead d v =
       ended = v .ended;
       pending = v .pending ++ record { due = v .ended + v .terms .period; amount = d } ∷ [];
       boundary = v .boundary;
+      pendingTotal = v .pendingTotal;
+      heldTotal = v .heldTotal;
     }
 
 -- where none was usable, the first that returns is the new head
@@ -44,6 +46,8 @@ returnedHead now v =
       ended = head now v (v .pending);
       pending = still now (v .pending);
       boundary = v .boundary;
+      pendingTotal = v .pendingTotal;
+      heldTotal = v .heldTotal;
     }
 
 abbrev chargeHead : ℕ → Option ℕ → List Vcpu → List Vcpu
@@ -55,7 +59,7 @@ answerHead c call (some r) = record { reply = refused r; card = c }
 answerHead c call none =
     let d : Card =
     settled (call .now)
-    (change (call .now) (call .asked) (map (returnedHead (call .now)) (chargeHead (call .now - c .last) (c .running) (c .vcpus)))) [] in
+    (change (call .now) (call .asked) (map (returnedHead (call .now)) (chargeHead (call .now - c .last) (c .running) (c .vcpus)))) [] 0 0 in
     record { reply = ok (report 0 d); card = d }
 
 abbrev turnHead : Card → Call → Answer

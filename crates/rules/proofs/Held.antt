@@ -43,6 +43,15 @@ held-more s o last (suc d) h g k =
     rw (owns-now s o last (length (ticks d o h)) g e)
     (ap (λ (l : List Bool). (lasts (s .until) && holds (s .terms .tunnel) o) ∷ l) (held-more s o last d h g k))
 
+-- so it held d ticks more, or none
+pub held-on : (d : ℕ) (m : List Bool) → heldTicks (ticks d true m) ≡ heldTicks m + d
+held-on zero m = omega arith
+held-on (suc d) m = omega (arith, held-on d m)
+
+pub held-off : (d : ℕ) (m : List Bool) → heldTicks (ticks d false m) ≡ heldTicks m
+held-off zero m = refl
+held-off (suc d) m = omega (arith, held-off d m)
+
 -- no tick before its admission
 pub owns-none : (s : Stay) (o : Option ℕ) (n : ℕ) → n < s .from → owns s o n ≡ false
 owns-none s o n h = rw (lt-leb (s .from) n h) (go (holds (s .terms .tunnel) o))

@@ -9,7 +9,7 @@ use lib.ListN.{length}
 use Rattle.rules.specs.Limits.{mostVcpus}
 use Rattle.rules.specs.Lists.{count, All}
 use Rattle.rules.specs.Vcpu.{Vcpu, named}
-use Rattle.rules.specs.Stays.{Stay, lasts, lastsAs, held, EachTick, owners}
+use Rattle.rules.specs.Stays.{Stay, lasts, lastsAs, held, heldTicks, EachTick, owners}
 use Rattle.rules.proofs.Sound.{Sound}
 use Rattle.rules.proofs.Tied.{Tied}
 use Rattle.rules.proofs.Window.{Within}
@@ -18,6 +18,7 @@ use Rattle.rules.proofs.Held.{Dated}
 -- a VCPU and the stay that it lasts in; a queue that tells of its ticks has only a sporadic one
 pub record Pair (last : ℕ) (s : Stay) (v : Vcpu) (h : List (Option ℕ)) : Type 0 where
   pub same-terms : v .terms ≡ s .terms
+  pub held-total : v .heldTotal ≡ heldTicks (held s h)
   pub tied : v .terms .kind ≡ 0 → Tied (v .terms .period) last (v .ended) (v .pending) (held s h)
 
 -- `s` is the stay of each VCPU on the card that has its identifier

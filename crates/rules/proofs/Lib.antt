@@ -1,5 +1,5 @@
--- The theorems about the rules (Demand3, Meaning, Rows, Marks, Budgets, Brought, Leaving), computed examples (Case, Examples, HeadEntry,
--- Bursts, DoubleShare, Totals), and the laws that carry them. Assumes nothing.
+-- The theorems about the rules (Demand3, Meaning, Rows, Marks, Budgets, Brought, Leaving, Accounts, Books, Undecided), computed examples
+-- (Case, Examples, HeadEntry, Bursts, DoubleShare, Totals, Whose), and the laws that carry them. Assumes nothing.
 pub mod Demand3
 pub mod Meaning
 pub mod Rows
@@ -7,15 +7,20 @@ pub mod Marks
 pub mod Budgets
 pub mod Brought
 pub mod Leaving
+pub mod Accounts
+pub mod Books
+pub mod Undecided
 pub mod Case
 pub mod Examples
 pub mod HeadEntry
 pub mod Bursts
 pub mod DoubleShare
 pub mod Totals
+pub mod Whose
 pub mod Tests
 pub mod Lists
 pub mod Named
+pub mod FirstFrom
 pub mod ThreeKinds
 pub mod Urgency
 pub mod Choice

@@ -4,7 +4,7 @@ use mathlib.Core.Path.{_≡_, refl, ap, sym, _∙_, subst}
 use mathlib.Core.Bool.{Bool, true, false, cond, not, _&&_}
 use mathlib.Core.List.{List, [], _∷_, _++_, map}
 use mathlib.Core.Logic.{_⊎_, inl, inr, ⊎-elim}
-use Prim.Native.Nat.{ℕ, zero, suc, _+_, _*_, _≤_}
+use Prim.Native.Nat.{ℕ, zero, suc, _+_, _*_, _≤_, _<_}
 use native.Mathlib.Nat.{suc-mul}
 use native.Mathlib.Omega.{arith}
 use lib.ListN.{length}
@@ -236,3 +236,76 @@ module _ {A : Type 0} where
   pub sum-map : {B : Type 0} (f : B → ℕ) (g : A → B) (l : List A) → sum f (map g l) ≡ sum (λ a. f (g a)) l
   sum-map f g [] = refl
   sum-map f g (a ∷ l) = omega (arith, sum-map f g l)
+
+  -- the sum over those that pass a test, and over the others
+  pub sum-without : (test : A → Bool) (f : A → ℕ) (l : List A)
+      → sum f (keep (λ a. not (test a)) l) + sum (λ a. cond (test a) (f a) 0) l ≡ sum f l
+  sum-without test f [] = refl
+  sum-without test f (a ∷ l) = go (test a) (sum-without test f l)
+    where
+      rest : List A
+      rest = keep (λ b. not (test b)) l
+
+      go : (t : Bool) → sum f rest + sum (λ b. cond (test b) (f b) 0) l ≡ sum f l
+          → sum f (cond (not t) (a ∷ rest) rest) + (cond t (f a) 0 + sum (λ b. cond (test b) (f b) 0) l) ≡ f a + sum f l
+      go true k = omega arith
+      go false k = omega arith
+
+  -- where nobody passes it is 0, and where one does, the number of that one
+  pub sum-none : (test : A → Bool) (f : A → ℕ) (l : List A) → count test l ≡ 0 → sum (λ a. cond (test a) (f a) 0) l ≡ 0
+  sum-none test f [] h = refl
+  sum-none test f (a ∷ l) h = go (test a) h (λ k. sum-none test f l k)
+    where
+      go : (t : Bool) → cond t 1 0 + count test l ≡ 0 → (count test l ≡ 0 → sum (λ a. cond (test a) (f a) 0) l ≡ 0)
+          → cond t (f a) 0 + sum (λ a. cond (test a) (f a) 0) l ≡ 0
+      go true k ih = absurd (omega arith)
+      go false k ih = omega (arith, ih (omega arith))
+
+  pub sum-one : (test : A → Bool) (f : A → ℕ) (n : ℕ) (l : List A) → count test l ≡ 1 → All (λ a. test a ≡ true → f a ≡ n) l
+      → sum (λ a. cond (test a) (f a) 0) l ≡ n
+  sum-one test f n [] h k = absurd (omega arith)
+  sum-one test f n (a ∷ l) h k = go (test a) refl h (λ m. sum-one test f n l m (k .1))
+    where
+      go : (t : Bool) → test a ≡ t → cond t 1 0 + count test l ≡ 1 → (count test l ≡ 1 → sum (λ a. cond (test a) (f a) 0) l ≡ n)
+          → cond t (f a) 0 + sum (λ a. cond (test a) (f a) 0) l ≡ n
+      go true e m ih = omega (arith, k .0 e, sum-none test f l (omega arith))
+      go false e m ih = omega (arith, ih (omega arith))
+
+  pub sum-same : (f g : A → ℕ) (l : List A) → All (λ a. f a ≡ g a) l → sum f l ≡ sum g l
+  sum-same f g [] h = refl
+  sum-same f g (a ∷ l) h = omega (arith, h .0, sum-same f g l (h .1))
+
+  pub sum-both : (f g : A → ℕ) (l : List A) → sum (λ a. f a + g a) l ≡ sum f l + sum g l
+  sum-both f g [] = refl
+  sum-both f g (a ∷ l) = omega (arith, sum-both f g l)
+
+  pub sum-among : (f : A → ℕ) (l : List A) (a : A) → Among a l → f a ≤ sum f l
+  sum-among f (b ∷ l) a (inl e) = rw e (omega arith)
+  sum-among f (b ∷ l) a (inr m) = omega (arith, sum-among f l a m)
+
+  pub count-most : (test : A → Bool) (l : List A) → count test l ≤ length l
+  count-most test [] = omega arith
+  count-most test (a ∷ l) = go (test a) (count-most test l)
+    where
+      go : (t : Bool) → count test l ≤ length l → cond t 1 0 + count test l ≤ suc (length l)
+      go true k = omega arith
+      go false k = omega arith
+
+  -- a test that fewer pass, by one at the least
+  pub count-fewer : (f g : A → Bool) → ((a : A) → g a ≡ true → f a ≡ true) → (l : List A) → count g l ≤ count f l
+  count-fewer f g h [] = omega arith
+  count-fewer f g h (a ∷ l) = go (g a) refl (count-fewer f g h l)
+    where
+      go : (t : Bool) → g a ≡ t → count g l ≤ count f l → cond t 1 0 + count g l ≤ cond (f a) 1 0 + count f l
+      go true e k = rw (h a e) (omega arith)
+      go false e k = omega arith
+
+  pub count-less : (f g : A → Bool) → ((a : A) → g a ≡ true → f a ≡ true) → (l : List A) (a : A) → Among a l → f a ≡ true → g a ≡ false
+      → count g l < count f l
+  count-less f g h (b ∷ l) a (inl e) p q =
+      rw (subst (λ (x : A). f x ≡ true) e p, subst (λ (x : A). g x ≡ false) e q) (omega (arith, count-fewer f g h l))
+  count-less f g h (b ∷ l) a (inr m) p q = go (g b) refl (count-less f g h l a m p q)
+    where
+      go : (t : Bool) → g b ≡ t → count g l < count f l → cond t 1 0 + count g l < cond (f b) 1 0 + count f l
+      go true e k = rw (h b e) (omega arith)
+      go false e k = omega arith

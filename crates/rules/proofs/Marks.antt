@@ -94,6 +94,7 @@ newcomer now d =
       none-usable = leaves-none d (d .capacity);
       nothing-pending = refl;
       no-earlier-use = refl;
+      no-totals = (refl, refl);
       no-boundary = λ e. rw (is-sporadic d e);
       first-boundary = λ n. rw (not-sporadic d n);
     }

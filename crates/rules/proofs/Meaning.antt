@@ -9,7 +9,7 @@ use Prim.Native.Nat.{ℕ, suc, _+_, _≤_}
 use native.Mathlib.Omega.{arith}
 use lib.Dec.{ltb}
 use borrow.Author.Tests.{ltb-true, ltb-false, eq-eqb}
-use Rattle.rules.specs.Limits.{largestTime}
+use Rattle.rules.specs.Limits.{largestTime, mostVcpus}
 use Rattle.rules.specs.Lists.{count, All, Among}
 use Rattle.rules.specs.Vcpu.{Entry, Vcpu, named}
 use Rattle.rules.specs.Remember.{remembers}
@@ -23,8 +23,9 @@ use Rattle.rules.specs.Meaning.{Keeps, sporadic, refilled, Meaning}
 use Rattle.rules.specs.History.{after, heard, past}
 use Rattle.rules.specs.Stays.{stays}
 use Rattle.rules.proofs.Tests.{clash, no-some, cases}
+use Rattle.rules.proofs.FirstFrom.{first-from, none-from, from, walk-there, walk-all, walk-rises}
 use Rattle.rules.proofs.Named.{named-says, is-named, named-itself, on-card-says, is-on-card, found, find-there}
-use Rattle.rules.proofs.Lists.{all-imp, all-both, keeps-none, only-one, count-among}
+use Rattle.rules.proofs.Lists.{all-imp, all-both, keeps-none, only-one, count-among, count-most}
 use Rattle.rules.proofs.Choice.{chosen, idle, nobody, only, is-ready}
 use Rattle.rules.proofs.Timer.{in-idle, no-return, while-running}
 use Rattle.rules.proofs.Queue.{total, Rising}
@@ -163,6 +164,14 @@ meaning calls =
       reports-idle = λ n e. ap usableOf (idle-chosen (after calls) s o k e);
       one-of-three = all-imp (λ v q. one-of-three (v .terms) (q .range .kind-high)) (after calls .vcpus) k;
       keeps = all-imp (keeps-so (after calls .last)) (after calls .vcpus) k;
+      first-from = λ low t. first-from (after calls .vcpus) low t;
+      none-from = λ low. none-from (after calls .vcpus) low;
+      walks = λ t. (
+        λ m. walk-there (after calls .vcpus) mostVcpus 0 t m .0,
+        λ p. walk-all (after calls .vcpus) mostVcpus 0 (omega (arith, reached calls .lawful .few, count-most (from 0) (after calls .vcpus))) t p
+            (omega arith),
+      );
+      rises = walk-rises (after calls .vcpus) mostVcpus 0;
       polling-waits = all-imp (λ v q. q .polls) (after calls .vcpus) k;
       sorted = all-imp (λ v q. rising-sorted (suc (after calls .last)) (after calls .last + v .terms .period) (v .pending) (q .order))
           (after calls .vcpus) k;

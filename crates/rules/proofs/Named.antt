@@ -49,7 +49,7 @@ found t (w ∷ vs) v e = go (named t w) refl e (λ f. found t vs v f)
         (inl (sym q), subst (λ (x : Vcpu). named t x ≡ true) q n)
     go false n f ih = (inr (ih f .0), ih f .1)
 
-not-found : (t : ℕ) (vs : List Vcpu) → find t vs ≡ none → All (λ w. named t w ≡ false) vs
+pub not-found : (t : ℕ) (vs : List Vcpu) → find t vs ≡ none → All (λ w. named t w ≡ false) vs
 not-found t [] e = tt
 not-found t (w ∷ vs) e = go (named t w) refl e (λ f. not-found t vs f)
   where

@@ -13,6 +13,7 @@ use Rattle.rules.specs.Card.{Card, empty}
 use Rattle.rules.specs.Timer.{timer}
 use Rattle.rules.specs.Refuse.{Refusal, refusal}
 use Rattle.rules.specs.Turn.{Call, ok, refused, reported, turn, settled, accepted, afterReturn, afterChange, rememberedThen}
+use Rattle.rules.specs.Turn.{removedThen, idleThen}
 use Rattle.rules.specs.History.{after, heard, time, holder, past, ticks, holds}
 use Rattle.rules.specs.Stays.{Stay, stays, changeStays}
 use Rattle.rules.proofs.Named.{is-named}
@@ -48,10 +49,10 @@ unfolding turn
 card-accepted c call e = rw e
 
 -- after the change, at `now`, choose and timer settle the card
-settles : (now : ℕ) (vs : List Vcpu) (rs : List Remembered) (ss : List Stay) (h : List (Option ℕ)) → Lawful now vs ss h → Memory now vs rs
-    → Reached (settled now vs rs) ss h
+settles : (now : ℕ) (vs : List Vcpu) (rs : List Remembered) (gone idle : ℕ) (ss : List Stay) (h : List (Option ℕ)) → Lawful now vs ss h
+    → Memory now vs rs → Reached (settled now vs rs gone idle) ss h
 unfolding settled
-settles now vs rs ss h l m = record { settled = record { runs-chosen = refl; timer-set = refl }; lawful = l; memory = m }
+settles now vs rs gone idle ss h l m = record { settled = record { runs-chosen = refl; timer-set = refl }; lawful = l; memory = m }
 
 -- the history tells the time of the card, and who runs
 pub told-by-card : (calls : List Call) → (time (heard calls) ≡ after calls .last) × (holder (heard calls) ≡ after calls .running)
@@ -115,7 +116,7 @@ next c ss h call r e =
     let p = passed c (call .now) (call .asked) e in
     let l = returned-lawful c ss h call r p in
     let a = rows-stepped c (call .now) (kept (call .now) (c .remembered)) (call .asked) ∙ p .asked-for in
-    settles (call .now) (afterChange c call) (rememberedThen c call) _ _
+    settles (call .now) (afterChange c call) (rememberedThen c call) (removedThen c call) (idleThen c (call .now)) _ _
     (changed (call .now) (afterReturn c (call .now)) ss (ticks (call .now - c .last) (c .running) h) l _ (call .asked) a)
     (memory-changed (call .now) (afterReturn c (call .now)) (kept (call .now) (c .remembered)) (l .sound)
     (memory-later c (call .now) (p .not-before) (r .memory)) (call .asked) a)

@@ -23,6 +23,7 @@ use Rattle.rules.proofs.Queue.{total, Rising, rising-wide, posts, broug
 pub record Orderly (low high now : ℕ) (v : Vcpu) : Type 0 where
   pub range : InRange (v .terms)
   pub most : v .usable + total (v .pending) ≤ v .terms .capacity
+  pub adds : v .pendingTotal ≡ total (v .pending)
   pub order : Rising low high (v .pending)
   pub few : length (v .pending) ≤ mostPending
   pub used : v .ended ≤ now
@@ -41,6 +42,7 @@ orderly-later low high now later v h k =
     record {
       range = k .range;
       most = k .most;
+      adds = k .adds;
       order = k .order;
       few = k .few;
       used = omega (arith, k .used);
@@ -54,6 +56,7 @@ sound-admitted now d r =
     record {
       range = r;
       most = omega (arith, leaves-most d false (d .capacity));
+      adds = refl;
       order = tt;
       few = omega arith;
       used = omega arith;
@@ -67,6 +70,7 @@ sound-set last b v s =
     record {
       range = s .range;
       most = omega (arith, s .most, leaves-most (v .terms) b (v .usable));
+      adds = s .adds;
       order = s .order;
       few = s .few;
       used = s .used;
@@ -94,6 +98,7 @@ kept-charged last d v h s = go (noTicks last (last + d)) refl
         record {
           range = s .range;
           most = rw i (omega (arith, p .in-all, w .1));
+          adds = rw i (omega (arith, p .in-all, s .adds));
           order = rw i (p .order);
           few = rw i (p .few);
           used = rw i (omega arith);
@@ -108,6 +113,7 @@ kept-charged last d v h s = go (noTicks last (last + d)) refl
         record {
           range = s .range;
           most = rw i (omega (arith, s .most));
+          adds = rw i (s .adds);
           order = rw i (s .order);
           few = rw i (s .few);
           used = rw i (omega (arith, s .used));
@@ -131,6 +137,7 @@ sound-returned low high now v h k = go (v .boundary) refl
         record {
           range = k .range;
           most = omega (arith, a, k .most);
+          adds = omega (arith, a, k .adds);
           order = rising-wide (suc now) high (suc now) (now + v .terms .period) (still now (v .pending)) (omega arith) h (s .order);
           few = omega (arith, s .few, k .few);
           used = k .used;
@@ -149,6 +156,7 @@ sound-returned low high now v h k = go (v .boundary) refl
         record {
           range = k .range;
           most = rw q (omega (arith, leaves-most (v .terms) (v .runnable) (v .terms .capacity)));
+          adds = omega (arith, brought-all now (v .pending), k .adds);
           order = rw q tt;
           few = rw q (omega arith);
           used = k .used;

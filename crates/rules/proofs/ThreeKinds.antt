@@ -75,6 +75,9 @@ terms-returned now v = refill-keeps (λ w. w .terms) now (v .boundary) (broughtI
 pub runnable-returned : (now : ℕ) (v : Vcpu) → returned now v .runnable ≡ v .runnable
 runnable-returned now v = refill-keeps (λ w. w .runnable) now (v .boundary) (broughtIn now v) (λ b. refl)
 
+pub held-returned : (now : ℕ) (v : Vcpu) → returned now v .heldTotal ≡ v .heldTotal
+held-returned now v = refill-keeps (λ w. w .heldTotal) now (v .boundary) (broughtIn now v) (λ b. refl)
+
 -- without a boundary only the queue returns
 pub returned-none : (now : ℕ) (v : Vcpu) → v .boundary ≡ none → returned now v ≡ broughtIn now v
 returned-none now v e = ap (λ (o : Option ℕ). refill now o (broughtIn now v)) e

@@ -128,6 +128,8 @@ erased v =
       ended = v .ended;
       pending = [];
       boundary = none;
+      pendingTotal = v .pendingTotal;
+      heldTotal = v .heldTotal;
     }
 
 abbrev pub erasedOf : Option Vcpu → Option Vcpu

@@ -1,6 +1,7 @@
 -- Steps 1 and 2, of all three kinds, as plain facts of a VCPU before and after an accepted call: whether it is charged and with how
--- many ticks, how these are posted and what returns, or how it is refilled. Proved of any calls in proofs/Budgets, and there that these
--- facts leave nothing of it open but the runnable mark, which is step 3's (`one-budget`). Assumes nothing.
+-- many ticks, how these are posted and what returns, or how it is refilled, and how its totals move. Proved of any calls in
+-- proofs/Budgets, and there that these facts leave nothing of it open but the runnable mark, which is step 3's (`one-budget`). Assumes
+-- nothing.
 use Prim.Native.Nat.{ℕ, _+_, _-_, _*_, _≤_, _<_}
 use mathlib.Core.Path.{_≡_}
 use mathlib.Core.Bool.{true, false}
@@ -51,6 +52,8 @@ pub record Queued (last now ticks : ℕ) (v w : Vcpu) : Type 0 where
   pub are-due : All (λ e. e .due ≤ now) back
   pub to-come : All (λ e. now < e .due) (w .pending)
   pub usable : w .usable + ticks ≡ v .usable + sum (λ e. e .amount) back
+  -- its pending total is raised by the charge and lowered by what returns
+  pub pending-total : w .pendingTotal + sum (λ e. e .amount) back ≡ v .pendingTotal + ticks
   pub no-boundary : w .boundary ≡ none
 
 -- the first of the boundaries b, b + T, b + 2T .. after `now`
@@ -79,6 +82,7 @@ pub record Refilled (now ticks : ℕ) (v w : Vcpu) : Type 0 where
   pub usable : (Polling (w .terms) → w .runnable ≡ true) → w .usable ≡ given
   pub no-queue : w .pending ≡ []
   pub no-use : w .ended ≡ 0
+  pub same-pending-total : w .pendingTotal ≡ v .pendingTotal
 
 -- `v` before an accepted call at `now`, and `w`, the same VCPU after it
 pub record Budget (c : Card) (now : ℕ) (v w : Vcpu) : Type 0 where
@@ -86,6 +90,8 @@ pub record Budget (c : Card) (now : ℕ) (v w : Vcpu) : Type 0 where
   pub ticks : ℕ
   pub loses : Loses c now v ticks
   pub has-them : ticks ≤ v .usable
+  -- what it loses it has held, runnable or not, blocked or woken by this call
+  pub held-total : w .heldTotal ≡ v .heldTotal + ticks
   pub sporadic : Sporadic (v .terms) → Queued (c .last) now ticks v w
   pub refilled : (Sporadic (v .terms) → ⊥) → Refilled now ticks v w
 

@@ -34,6 +34,8 @@ setRunnable runnable v =
       ended = v .ended;
       pending = v .pending;
       boundary = v .boundary;
+      pendingTotal = v .pendingTotal;
+      heldTotal = v .heldTotal;
     }
 
 abbrev pub change : ℕ → Change → List Vcpu → List Vcpu

@@ -1,4 +1,5 @@
--- Document 01, step 1: charge the VCPU that held the core since `last`. A deferrable or polling one has no queue (02, No. 1).
+-- Document 01, step 1: charge the VCPU that held the core since `last`. A deferrable or polling one has no queue (02, No. 1); the totals
+-- of document 02, No. 6, grow with the charge.
 -- Assumes nothing.
 use Prim.Native.Nat.{ℕ, _+_, _-_}
 use mathlib.Core.Bool.{Bool, true, false, cond, not, _&&_}
@@ -47,7 +48,7 @@ posted last d v =
 abbrev pub noTicks : ℕ → ℕ → Bool
 noTicks last now = eqb (now - last) 0
 
--- it loses `now - last` usable ticks; of a sporadic one they become a pending return, and its use now ends at `now`
+-- it loses `now - last` usable ticks, which it has held; of a sporadic one they become a pending return, and its use now ends at `now`
 abbrev pub chargedSome : ℕ → ℕ → Vcpu → Vcpu
 chargedSome last now v =
     record {
@@ -57,6 +58,8 @@ chargedSome last now v =
       ended = cond (isSporadic (v .terms)) now (v .ended);
       pending = cond (isSporadic (v .terms)) (posted last (now - last) v) (v .pending);
       boundary = v .boundary;
+      pendingTotal = cond (isSporadic (v .terms)) (v .pendingTotal + (now - last)) (v .pendingTotal);
+      heldTotal = v .heldTotal + (now - last);
     }
 
 -- the VCPU that held the core from `last` to `now`

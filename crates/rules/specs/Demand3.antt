@@ -117,6 +117,8 @@ pub record ItsStay (xs : List Exchange) (v : Vcpu) : Type 0 where
   pub one-of-them : Among stay (stays xs)
   pub lasting : stay .until ≡ none
   pub same-terms : v .terms ≡ stay .terms
+  -- its held total is the count from the history, of this stay alone
+  pub held-total : v .heldTotal ≡ heldTicks (held stay (past xs))
   pub at-most-capacity : Sporadic (stay .terms) → AtMostCapacity xs stay
   pub usable-budget : Sporadic (stay .terms) → UsableBudget xs stay v
   pub pending-slices : Sporadic (stay .terms) → PendingSlices xs stay v

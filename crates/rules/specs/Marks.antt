@@ -30,6 +30,7 @@ pub record Newcomer (now : ℕ) (d : Description) (v : Vcpu) : Type 0 where
   pub none-usable : Polling d → v .usable ≡ 0
   pub nothing-pending : v .pending ≡ []
   pub no-earlier-use : v .ended ≡ 0
+  pub no-totals : (v .pendingTotal ≡ 0) × (v .heldTotal ≡ 0)
   pub no-boundary : Sporadic d → v .boundary ≡ none
   pub first-boundary : (Sporadic d → ⊥) → v .boundary ≡ some (now + d .period)
 

@@ -1,18 +1,18 @@
 -- What the kinds, steps 4 and 5 and the numbers of the card mean, as facts of a card, and what it keeps of each VCPU's budget.
 -- Proved of the card after any calls in proofs/Meaning. Assumes nothing.
-use Prim.Native.Nat.{ℕ, _+_, _≤_, _<_}
+use Prim.Native.Nat.{ℕ, zero, suc, _+_, _≤_, _<_}
 use mathlib.Core.Path.{_≡_}
 use mathlib.Core.Bool.{true, false}
 use mathlib.Core.List.{List, [], _∷_}
 use mathlib.Core.Logic.{_⊎_, _↔_}
-use mathlib.Core.Option.{none, some}
+use mathlib.Core.Option.{Option, none, some}
 use lib.Dec.{eqb}
 use lib.ListN.{length}
 use Rattle.rules.specs.Limits.{largestTime, largestTunnel, largestPeriod, mostVcpus, mostPending}
 use Rattle.rules.specs.Lists.{count, sum, All, Among}
 use Rattle.rules.specs.Vcpu.{Description, Entry, Vcpu}
 use Rattle.rules.specs.Remember.{Remembered, timeOf}
-use Rattle.rules.specs.Card.{Card, onCard, find}
+use Rattle.rules.specs.Card.{Card, onCard, find, firstFrom}
 use Rattle.rules.specs.Turn.{report}
 
 -- "Admit gains a kind: 0 sporadic (as now), 1 deferrable, 2 polling."
@@ -84,6 +84,23 @@ OnTheCard vs tunnel = (v : Vcpu) × Among v vs × (v .terms .tunnel ≡ tunnel)
 abbrev pub RememberedWith : List Remembered → ℕ → ℕ → Type 0
 RememberedWith rs tunnel time = (r : Remembered) × Among r rs × (r .tunnel ≡ tunnel) × (r .time ≡ time)
 
+-- the smallest identifier on the card from `low` on
+abbrev pub FirstFrom : List Vcpu → ℕ → ℕ → Type 0
+FirstFrom vs low tunnel = OnTheCard vs tunnel × (low ≤ tunnel) × ((t : ℕ) → OnTheCard vs t → low ≤ t → tunnel ≤ t)
+
+abbrev pub onward : Option ℕ → (ℕ → List ℕ) → List ℕ
+onward none rest = []
+onward (some t) rest = t ∷ rest t
+
+-- so a reader of the card goes through them: the first from `low` on, then the first above it, and so on, so many times at the most
+abbrev pub walk : ℕ → ℕ → List Vcpu → List ℕ
+walk zero low vs = []
+walk (suc n) low vs = onward (firstFrom low vs) (λ t. walk n (t + 1) vs)
+
+abbrev pub Rises : List ℕ → Type 0
+Rises [] = Unit {0}
+Rises (t ∷ ts) = All (λ u. t < u) ts × Rises ts
+
 abbrev pub pendingTicks : Vcpu → ℕ
 pendingTicks v = sum (λ e. e .amount) (v .pending)
 
@@ -114,6 +131,11 @@ pub record Meaning (c : Card) : Type 0 where
   -- the rules look an identifier up, all 24 bits of it
   pub on-card : (tunnel : ℕ) → onCard tunnel (c .vcpus) ≡ true ↔ OnTheCard (c .vcpus) tunnel
   pub finds : (tunnel : ℕ) (v : Vcpu) → find tunnel (c .vcpus) ≡ some v ↔ (Among v (c .vcpus) × (v .terms .tunnel ≡ tunnel))
+  -- from a number on the smallest is found, and 32 searches go through all that are there, each once and in rising order
+  pub first-from : (low tunnel : ℕ) → firstFrom low (c .vcpus) ≡ some tunnel ↔ FirstFrom (c .vcpus) low tunnel
+  pub none-from : (low : ℕ) → firstFrom low (c .vcpus) ≡ none ↔ ((t : ℕ) → OnTheCard (c .vcpus) t → low ≤ t → ⊥)
+  pub walks : (tunnel : ℕ) → Among tunnel (walk mostVcpus 0 (c .vcpus)) ↔ OnTheCard (c .vcpus) tunnel
+  pub rises : Rises (walk mostVcpus 0 (c .vcpus))
   -- the report has the time, who runs and the timer of the card, and the usable ticks of the one that runs, 0 in idle
   pub reports-card : (n : ℕ) → (report n c .time ≡ c .last) × (report n c .run ≡ c .running) × (report n c .timer ≡ c .timer)
   pub reports : (n : ℕ) (v : Vcpu) → MayRun (c .vcpus) v → report n c .usable ≡ v .usable

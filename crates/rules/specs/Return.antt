@@ -1,5 +1,5 @@
--- Document 01, step 2: entries that are due leave the front of the queue and become usable; and document 02, No. 1: a deferrable or
--- polling VCPU is refilled at its boundaries.
+-- Document 01, step 2: entries that are due leave the front of the queue and become usable, and the pending total is lowered by them
+-- (document 02, No. 6); and No. 1: a deferrable or polling VCPU is refilled at its boundaries.
 -- Assumes nothing.
 use Prim.Native.Nat.{ℕ, _+_, _-_, _*_, _/_}
 use mathlib.Core.Bool.{Bool, cond}
@@ -31,6 +31,8 @@ broughtIn now v =
       ended = v .ended;
       pending = still now (v .pending);
       boundary = v .boundary;
+      pendingTotal = v .pendingTotal - brought now (v .pending);
+      heldTotal = v .heldTotal;
     }
 
 -- the first of the boundaries b, b + T, b + 2T .. after `now`, where b is not
@@ -48,6 +50,8 @@ refilled now b v =
       ended = v .ended;
       pending = v .pending;
       boundary = some (boundaryAfter now (v .terms .period) b);
+      pendingTotal = v .pendingTotal;
+      heldTotal = v .heldTotal;
     }
 
 -- a call at or after its boundary refills it, once, however many boundaries it passes; a sporadic VCPU has none

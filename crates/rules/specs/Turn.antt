@@ -1,6 +1,6 @@
 -- Document 01, "What a call does": a call, its reply, and the state handed back.
 -- Assumes nothing.
-use Prim.Native.Nat.{ℕ}
+use Prim.Native.Nat.{ℕ, _+_}
 use mathlib.Core.List.{List}
 use mathlib.Core.Option.{Option, none, some}
 use Rattle.rules.specs.Vcpu.{Vcpu}
@@ -9,6 +9,7 @@ use Rattle.rules.specs.Card.{Card}
 use Rattle.rules.specs.Charge.{charge}
 use Rattle.rules.specs.Return.{bring}
 use Rattle.rules.specs.Change.{Change, change, remember}
+use Rattle.rules.specs.Ledger.{idled, handedOver}
 use Rattle.rules.specs.Choose.{choose, runs, usableOf}
 use Rattle.rules.specs.Timer.{timer}
 use Rattle.rules.specs.Told.{Told, tell, total}
@@ -48,10 +49,25 @@ afterChange c call = change (call .now) (call .asked) (afterReturn c (call .now)
 abbrev pub rememberedThen : Card → Call → List Remembered
 rememberedThen c call = remember (call .now) (call .asked) (afterReturn c (call .now)) (c .remembered)
 
+-- the ticks that removed tenants held, and the idle ones, then
+abbrev pub removedThen : Card → Call → ℕ
+removedThen c call = c .removed + handedOver (call .asked) (afterReturn c (call .now))
+
+abbrev pub idleThen : Card → ℕ → ℕ
+idleThen c now = idled (c .last) now (c .running) (c .idle)
+
 -- steps 4 and 5: choose and timer
-unfoldable pub settled : ℕ → List Vcpu → List Remembered → Card
-settled now vs rs =
-    record { last = now; running = runs (choose vs); timer = timer now vs (choose vs); vcpus = vs; remembered = rs }
+unfoldable pub settled : ℕ → List Vcpu → List Remembered → ℕ → ℕ → Card
+settled now vs rs removed idle =
+    record {
+      last = now;
+      running = runs (choose vs);
+      timer = timer now vs (choose vs);
+      vcpus = vs;
+      remembered = rs;
+      removed = removed;
+      idle = idle;
+    }
 
 -- what step 2 reports, of every VCPU on the card after the charge, those that step 3 then blocks or removes among them
 abbrev pub toldBy : Card → ℕ → List Told
@@ -62,7 +78,8 @@ report ticks c =
     record { time = c .last; run = c .running; usable = usableOf (choose (c .vcpus)); timer = c .timer; brought = ticks }
 
 abbrev pub accepted : Card → Call → Card
-accepted c call = settled (call .now) (afterChange c call) (rememberedThen c call)
+accepted c call =
+    settled (call .now) (afterChange c call) (rememberedThen c call) (removedThen c call) (idleThen c (call .now))
 
 abbrev pub reported : Card → Call → Report
 reported c call = report (total (toldBy c (call .now))) (accepted c call)

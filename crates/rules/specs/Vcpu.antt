@@ -1,4 +1,4 @@
--- Documents 01 and 02 (No. 1): what admit says of a VCPU, what the card keeps of it, and which of two is more urgent.
+-- Documents 01 and 02 (Nos. 1 and 6): what admit says of a VCPU, what the card keeps of it, and which of two is more urgent.
 -- Assumes nothing.
 use Prim.Native.Nat.{ℕ, _+_}
 use mathlib.Core.Bool.{Bool, false, cond, not, _&&_, _||_}
@@ -29,6 +29,7 @@ pub record Entry : Type 0 where
 -- `ended` is the end of its latest use; 0 stands for no earlier use, since a use ends at 1 or later. `pending` has the oldest first.
 -- A deferrable or polling VCPU has no queue: `ended` and `pending` stay as they were at admission. `boundary` is its next one; on the
 -- card it is there exactly for deferrable and polling VCPUs (`keeps` of Meaning), so steps 2 and 5 ask for it and not for the kind.
+-- "the sum of its pending ticks and the ticks it has held since admission" are kept too; no reply depends on them (proofs/Undecided).
 pub record Vcpu : Type 0 where
   pub terms : Description
   pub runnable : Bool
@@ -36,6 +37,8 @@ pub record Vcpu : Type 0 where
   pub ended : ℕ
   pub pending : List Entry
   pub boundary : Option ℕ
+  pub pendingTotal : ℕ
+  pub heldTotal : ℕ
 
 abbrev pub times : Option ℕ → List ℕ
 times none = []
@@ -60,6 +63,8 @@ admitted now d =
       ended = 0;
       pending = [];
       boundary = cond (isSporadic d) none (some (now + d .period));
+      pendingTotal = 0;
+      heldTotal = 0;
     }
 
 -- smaller is more urgent; at equal priority the smaller identifier is

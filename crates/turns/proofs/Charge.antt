@@ -9,7 +9,7 @@ use lib.Dec.{leb, ltb, eqb}
 use lib.ListN.{length, getD, set, length-append}
 use lib.Seq.{set-getD}
 use borrow.Author.Tests.{eqb-true, eqb-false, eq-eqb, ne-eqb, lt-ltb, leb-true, leb-false}
-use Rattle.units.specs.Units.{moment, amount, later}
+use Rattle.units.specs.Units.{moment, amount, total, later}
 use Rattle.units.specs.declared.Moment.{Moment}
 use Rattle.units.specs.declared.Amount.{Amount}
 use Rattle.rules.specs.Vcpu.{Entry, isSporadic}
@@ -21,7 +21,7 @@ use Rattle.turns.specs.declared.Vcpu.{Vcpu}
 use Rattle.turns.specs.Laid.{laid}
 use Rattle.turns.specs.Written.{never, amountOf, kindAs, written}
 use Rattle.turns.specs.Steps.{hasQueue, queueAs, endedAs, tookOf, joinsOf, withMore, joinedOf, foldedOf, appendedOf}
-use Rattle.turns.specs.Steps.{postedOf, spentOf, chargedOf}
+use Rattle.turns.specs.Steps.{owingAs, longAs, postedOf, spentOf, longerBy, chargedOf}
 use Rattle.turns.proofs.Laid.{laid-get, laid-set, laid-end}
 use Rattle.turns.proofs.Written.{dueOf, withQueue, as-queue, kind-queue}
 
@@ -66,7 +66,8 @@ same-queue : (v : Tenant) (ds ds′ : List Moment) (bs bs′ : List Amount) (n n
     → queueAs (written v) ds bs n ≡ queueAs (written v) ds′ bs′ n′
 same-queue v ds ds′ bs bs′ n n′ p q r = rw (p, q, r)
 
-module _ (last d : ℕ) (v : Tenant) (few : length (v .pending) ≤ 8) (fits : last + v .terms .period ≤ never) where
+module _ (last d : ℕ) (v : Tenant) (few : length (v .pending) ≤ 8) (fits : last + v .terms .period ≤ never)
+    (long : v .heldTotal + d ≤ never) where
   due-fits : later (moment last) (amount (v .terms .period)) ≡ moment (last + v .terms .period)
   due-fits = ap moment (omega arith)
 
@@ -185,34 +186,52 @@ module _ (last d : ℕ) (v : Tenant) (few : length (v .pending) ≤ 8) (fits : l
         ended = cond b now (v .ended);
         pending = cond b (posted last d v) (v .pending);
         boundary = v .boundary;
+        pendingTotal = cond b (v .pendingTotal + d) (v .pendingTotal);
+        heldTotal = v .heldTotal + d;
       }
 
-  took-queue : (now : ℕ) → tookOf (endedAs (withQueue v (posted last d v)) (moment now)) (amount (v .usable - d))
-      ≡ withQueue (paid now true) (posted last d v)
+  -- the record that a charge leaves, of one that was spent
+  abbrev took : Vcpu → Vcpu
+  took x = longAs (tookOf x (amount (v .usable - d))) (total (v .heldTotal + d))
+
+  -- .., of one whose queue has the ticks
+  abbrev owes : ℕ → Vcpu → Vcpu
+  owes now x = owingAs (endedAs x (moment now)) (amount (v .pendingTotal + d))
+
+  took-queue : (now : ℕ) → took (owes now (withQueue v (posted last d v))) ≡ withQueue (paid now true) (posted last d v)
   unfolding written
   took-queue now = refl
 
-  took-written : (now : ℕ) → tookOf (written v) (amount (v .usable - d)) ≡ written (paid now false)
+  took-written : (now : ℕ) → took (written v) ≡ written (paid now false)
   unfolding written
   took-written now = refl
+
+  -- .. its own pending total, and the ticks
+  abbrev owed : ℕ → Vcpu → Vcpu
+  owed now x = owingAs (endedAs (postedOf x (amount d) (moment last)) (moment now)) (amount (x .pending .0 + d))
+
+  owed-written : (now : ℕ) → owed now (written v) ≡ owes now (postedOf (written v) (amount d) (moment last))
+  unfolding written
+  owed-written now = refl
+
+  longer-fits : longerBy (total (v .heldTotal)) (amount d) ≡ total (v .heldTotal + d)
+  longer-fits = ap total (omega arith)
 
   kind-is : (written v) .kind ≡ kindAs (v .terms .kind)
   unfolding written
   kind-is = refl
 
   spent-same : (v .terms .kind ≡ 0 → v .boundary ≡ none) → (now : ℕ)
-      → tookOf (spentOf (written v) (amount d) (moment last) (moment now)) (amount (v .usable - d))
-      ≡ written (paid now (isSporadic (v .terms)))
+      → took (spentOf (written v) (amount d) (moment last) (moment now)) ≡ written (paid now (isSporadic (v .terms)))
   unfolding spentOf
   spent-same alone now = rw (ap hasQueue kind-is ∙ kind-queue (v .terms .kind)) (go (eqb (v .terms .kind) 0) refl)
     where
       go : (b : Bool) → eqb (v .terms .kind) 0 ≡ b
-          → tookOf (cond b (endedAs (postedOf (written v) (amount d) (moment last)) (moment now)) (written v)) (amount (v .usable - d))
-          ≡ written (paid now b)
+          → took (cond b (owed now (written v)) (written v)) ≡ written (paid now b)
       go true e =
           let n : v .boundary ≡ none = alone (eqb-true (v .terms .kind) 0 e) in
-          ap (λ (x : Vcpu). tookOf (endedAs (postedOf x (amount d) (moment last)) (moment now)) (amount (v .usable - d))) (as-queue v n)
-          ∙ ap (λ (x : Vcpu). tookOf (endedAs x (moment now)) (amount (v .usable - d))) posted-queue
+          ap took (owed-written now ∙ ap (λ (x : Vcpu). owes now (postedOf x (amount d) (moment last))) (as-queue v n))
+          ∙ ap (λ (x : Vcpu). took (owes now x)) posted-queue
           ∙ took-queue now
           ∙ sym (as-queue (paid now true) n)
       go false e = took-written now
@@ -223,7 +242,9 @@ module _ (last d : ℕ) (v : Tenant) (few : length (v .pending) ≤ 8) (fits : l
   charged-same alone now h e = rw (sym e) (go (eqb last now) refl)
     where
       go : (b : Bool) → eqb last now ≡ b
-          → cond b (written v) (tookOf (spentOf (written v) (amount d) (moment last) (moment now)) (amount (v .usable - d)))
+          → cond b (written v)
+          (longAs (tookOf (spentOf (written v) (amount d) (moment last) (moment now)) (amount (v .usable - d)))
+          (longerBy (total (v .heldTotal)) (amount d)))
           ≡ written (cond (eqb d 0) v (paid now (isSporadic (v .terms))))
       go true g = let k : last ≡ now = eqb-true last now g in rw (eq-eqb d 0 (omega arith))
-      go false g = rw (ne-eqb d 0 (λ z. eqb-false last now g (omega arith))) (spent-same alone now)
+      go false g = rw (ne-eqb d 0 (λ z. eqb-false last now g (omega arith)), longer-fits) (spent-same alone now)

@@ -16,6 +16,9 @@ use Rattle.rules.specs.Turn.{Call}
 use Rattle.rules.specs.History.{after, heard, past}
 use Rattle.rules.specs.Stays.{stays}
 use Rattle.rules.specs.Meaning.{InRange, Meaning, pendingTicks}
+use Rattle.rules.specs.Accounts.{allHeld}
+use Rattle.rules.proofs.Lists.{among-all, sum-among}
+use Rattle.rules.proofs.Accounts.{totals}
 use Rattle.rules.proofs.Named.{named-itself}
 use Rattle.rules.proofs.ThreeKinds.{by-kind}
 use Rattle.rules.proofs.Sound.{Orderly, Sound}
@@ -60,6 +63,7 @@ pub record Listed (vs : List Tenant) : Type 0 where
 pub record Fits (v : Tenant) : Type 0 where
   pub range : InRange (v .terms)
   pub most : v .usable + pendingTicks v ≤ v .terms .capacity
+  pub adds : v .pendingTotal ≡ pendingTicks v
   pub shows : Shows v
   pub polls : v .terms .kind ≡ 2 → v .runnable ≡ false → v .usable ≡ 0
 
@@ -70,7 +74,7 @@ orderly-formed low high now v k =
 
 pub kept-fits : (low high now : ℕ) (v : Tenant) → Orderly low high now v → Fits v
 kept-fits low high now v k =
-    record { range = k .range; most = k .most; shows = (k .few, orderly-formed low high now v k); polls = k .polls }
+    record { range = k .range; most = k .most; adds = k .adds; shows = (k .few, orderly-formed low high now v k); polls = k .polls }
 
 -- the rules count those so named; one that stands once stands nowhere else
 pub nowhere : (t : ℕ) (vs : List Tenant) → count (named t) vs ≡ 0 → All (λ e. e .tunnel ≡ t → ⊥) (termsOf vs)
@@ -108,6 +112,12 @@ module _ (c : Core) (r : SoundCore c) where
 
   pub card-reached : Reached (card c) (stays (heard (r .calls))) (past (heard (r .calls)))
   card-reached = subst (λ (x : Card). Reached x (stays (heard (r .calls))) (past (heard (r .calls)))) (sym (r .shows)) (reached (r .calls))
+
+  -- no total is above the time
+  pub held-most : All (λ v. v .heldTotal ≤ card c .last) (card c .vcpus)
+  held-most =
+      let t = subst (λ (x : Card). allHeld (x .vcpus) + x .removed + x .idle ≡ x .last) (sym (r .shows)) (totals (r .calls) .add-up) in
+      among-all _ (card c .vcpus) (λ v m. omega (arith, t, sum-among (λ w. w .heldTotal) (card c .vcpus) v m))
 
   pub means : Meaning (card c)
   means = subst Meaning (sym (r .shows)) (meaning (r .calls))

@@ -18,6 +18,7 @@ pub mod Heard
 pub mod Shape
 pub mod Settle
 pub mod Questions
+pub mod Least
 pub mod Paper
 pub mod Made
 pub mod Promised

@@ -66,7 +66,7 @@ one-call c r now change =
     sound : (o : Option Row) → refusal (card c) (now .0) (asked change) ≡ o
         → SoundCore (coreOf ((answered (card c) (callOf now change) o) .card))
     sound none e = core-sound (now .0) (afterChange (card c) (callOf now change)) (meets c r now change e .not-above)
-        (next-between c r now change e) (rememberedThen (card c) (callOf now change)) (next-few c r now change e)
+        (next-between c r now change e) (rememberedThen (card c) (callOf now change)) _ _ (next-few c r now change e)
         (callOf now change ∷ r .calls) (next-card c r now change e)
     sound (some x) e = subst SoundCore (r .written) r
 
@@ -74,7 +74,7 @@ one-call c r now change =
         → card (coreOf ((answered (card c) (callOf now change) o) .card)) ≡
         (answered (card c) (callOf now change) o) .card
     shows none e = shown-again (now .0) (afterChange (card c) (callOf now change)) (meets c r now change e .not-above)
-        (next-between c r now change e) (rememberedThen (card c) (callOf now change)) (next-few c r now change e)
+        (next-between c r now change e) (rememberedThen (card c) (callOf now change)) _ _ (next-few c r now change e)
     shows (some x) e = ap card (sym (r .written))
 
 pub record MadeSo (l : List Asking) : Type 0 where

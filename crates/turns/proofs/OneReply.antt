@@ -11,7 +11,7 @@ use Rattle.turns.specs.declared.Core.{Core}
 use Rattle.turns.specs.Written.{card, coreOf}
 use Rattle.turns.specs.Calls.{callOf, paperReply}
 use Rattle.turns.specs.State.{ValidCore}
-use Rattle.turns.proofs.Paper.{whole-answer, same-status, same-look}
+use Rattle.turns.proofs.Paper.{whole-answer, same-status, same-look, same-found}
 use Rattle.turns.proofs.Core.empty.Kinds as empty
 use Rattle.turns.proofs.Core.empty.Reads as empty-promise
 use Rattle.turns.proofs.Core.turn.Kinds as turn
@@ -28,6 +28,8 @@ use Rattle.turns.proofs.Core.tick.Kinds as tick
 use Rattle.turns.proofs.Core.tick.Reads as tick-promise
 use Rattle.turns.proofs.Core.look.Kinds as look
 use Rattle.turns.proofs.Core.look.Reads as look-promise
+use Rattle.turns.proofs.Core.first_from.Kinds as first-from
+use Rattle.turns.proofs.Core.first_from.Reads as first-from-promise
 use Rattle.turns.proofs.Core.status.Kinds as status
 use Rattle.turns.proofs.Core.status.Reads as status-promise
 
@@ -64,7 +66,10 @@ pub look-one : OneReply 0 look.ps look.r look-promise.Post
 look-one κs args a b x y p q =
     same-look a b (p .0 ∙ sym (q .0)) (p .1 .0 ∙ sym (q .1 .0)) (p .1 .1 .0 ∙ sym (q .1 .1 .0)) (p .1 .1 .1 ∙ sym (q .1 .1 .1))
 
+pub first-from-one : OneReply 0 first-from.ps first-from.r first-from-promise.Post
+first-from-one κs args a b x y p q = same-found a b (p ∙ sym q)
+
 pub status-one : OneReply 0 status.ps status.r status-promise.Post
 status-one κs args a b x y p q =
     same-status a b (p .0 .0 ∙ sym (q .0 .0)) (p .0 .1 ∙ sym (q .0 .1)) (p .1 .0 .0 ∙ sym (q .1 .0 .0)) (p .1 .0 .1 ∙ sym (q .1 .0 .1))
-    (p .1 .1 ∙ sym (q .1 .1))
+    (p .1 .1 .0 ∙ sym (q .1 .1 .0)) (p .1 .1 .1 .0 ∙ sym (q .1 .1 .1 .0)) (p .1 .1 .1 .1 ∙ sym (q .1 .1 .1 .1))

@@ -4,7 +4,7 @@ use Prim.Native.Nat.{ℕ}
 use mathlib.Core.Path.{_≡_, refl, ap, sym, _∙_}
 use mathlib.Core.Option.{Option, none, some}
 use Rattle.units.specs.declared.Moment.{Moment}
-use Rattle.units.specs.Units.{moment, amount}
+use Rattle.units.specs.Units.{moment, amount, total, tunnel}
 use Rattle.rules.specs.Turn.{Reply as Said}
 use Rattle.rules.specs.Turn.{Report as ReportRule}
 use Rattle.rules.specs.Turn.{ok, refused, turn}
@@ -25,11 +25,13 @@ use Rattle.turns.specs.declared.Presence.{Presence}
 use Rattle.turns.specs.declared.Presence.the-variants.{OnCard, Remembered, Absent}
 use Rattle.turns.specs.declared.Boundary.{Boundary}
 use Rattle.turns.specs.declared.Boundary.the-variants.{Unset as NoBoundary, At as NextAt}
+use Rattle.turns.specs.declared.Found.{Found}
+use Rattle.turns.specs.declared.Found.the-variants.{Nobody, Tenant as There}
 use Rattle.turns.specs.declared.Status.{Status}
 use Rattle.turns.specs.declared.Vcpu.{Vcpu}
 use Rattle.turns.specs.Written.{card, coreOf}
 use Rattle.turns.specs.Calls.{callOf, holderSaid, paperHolder, paperPresence, paperReply, paperTimer, replySaid, timerSaid, turned}
-use Rattle.turns.specs.Calls.{paperBoundary, paperRemembered}
+use Rattle.turns.specs.Calls.{paperBoundary, paperRemembered, paperFound}
 
 pub paper-holder : (o : Option ℕ) → paperHolder (holderSaid o) ≡ o
 paper-holder none = refl
@@ -86,16 +88,21 @@ whole-answer c now change a p q = same (a .core) _ (a .reply) _ q (sym (said-pap
 
 -- and what the status promises, the whole status
 pub same-status : (a b : Status) → a .time .0 ≡ b .time .0 → paperHolder (a .run) ≡ paperHolder (b .run)
-    → paperTimer (a .timer) ≡ paperTimer (b .timer) → a .vcpus ≡ b .vcpus → a .remembered ≡ b .remembered → a ≡ b
-same-status a b t h s n m =
-    same (a .time .0) (b .time .0) (a .run) (b .run) (a .timer) (b .timer) (a .vcpus) (b .vcpus) (a .remembered) (b .remembered) t
+    → paperTimer (a .timer) ≡ paperTimer (b .timer) → a .vcpus ≡ b .vcpus → a .remembered ≡ b .remembered
+    → a .removed .0 ≡ b .removed .0 → a .idle .0 ≡ b .idle .0 → a ≡ b
+same-status a b t h s n m g i =
+    same (a .time .0) (b .time .0) (a .run) (b .run) (a .timer) (b .timer) (a .vcpus) (b .vcpus) (a .remembered) (b .remembered)
+    (a .removed .0) (b .removed .0) (a .idle .0) (b .idle .0) t
     (sym (holder-paper (a .run)) ∙ ap holderSaid h ∙ holder-paper (b .run))
-    (sym (timer-paper (a .timer)) ∙ ap timerSaid s ∙ timer-paper (b .timer)) n m
+    (sym (timer-paper (a .timer)) ∙ ap timerSaid s ∙ timer-paper (b .timer)) n m g i
   where
-    same : (t t′ : ℕ) (h h′ : Holder) (s s′ : Timer) (n n′ m m′ : ℕ) → t ≡ t′ → h ≡ h′ → s ≡ s′ → n ≡ n′ → m ≡ m′
-        → _≡_ {A = Status} (record { time = moment t; run = h; timer = s; vcpus = n; remembered = m })
-        (record { time = moment t′; run = h′; timer = s′; vcpus = n′; remembered = m′ })
-    same t t′ h h′ s s′ n n′ m m′ p q v w x = rw (p, q, v, w, x)
+    status : ℕ → Holder → Timer → ℕ → ℕ → ℕ → ℕ → Status
+    status t h s n m g i =
+        record { time = moment t; run = h; timer = s; vcpus = n; remembered = m; removed = total g; idle = total i }
+
+    same : (t t′ : ℕ) (h h′ : Holder) (s s′ : Timer) (n n′ m m′ g g′ i i′ : ℕ) → t ≡ t′ → h ≡ h′ → s ≡ s′ → n ≡ n′ → m ≡ m′ → g ≡ g′
+        → i ≡ i′ → status t h s n m g i ≡ status t′ h′ s′ n′ m′ g′ i′
+    same t t′ h h′ s s′ n n′ m m′ g g′ i i′ p q v w x y z = rw (p, q, v, w, x, y, z)
 
 -- what a look promises, the whole look
 same-presence : (a b : Presence) → paperPresence a ≡ paperPresence b → paperRemembered a ≡ paperRemembered b → a ≡ b
@@ -125,3 +132,10 @@ same-look a b p m q r =
     same : (x x′ : Presence) (v v′ : Vcpu) (n n′ : Boundary) → x ≡ x′ → v ≡ v′ → n ≡ n′
         → _≡_ {A = Look} (record { presence = x; vcpu = v; boundary = n }) (record { presence = x′; vcpu = v′; boundary = n′ })
     same x x′ v v′ n n′ p q r = rw (p, q, r)
+
+-- what a search for an identifier promises, the whole answer
+pub same-found : (a b : Found) → paperFound a ≡ paperFound b → a ≡ b
+same-found Nobody Nobody e = refl
+same-found Nobody (There m) e = no-some e
+same-found (There m) Nobody e = no-some (sym e)
+same-found (There m) (There n) e = let f : m .0 ≡ n .0 = cc in ap (λ (t : ℕ). There (tunnel t)) f

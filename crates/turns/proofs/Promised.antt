@@ -24,6 +24,10 @@ use Rattle.rules.specs.History.{Exchange, after, heard}
 use Rattle.rules.specs.Demand3.{ItsStay}
 use Rattle.rules.proofs.Rows.{table-after}
 use Rattle.rules.proofs.Leaving.{leaving}
+use Rattle.rules.specs.Accounts.{Books}
+use Rattle.rules.proofs.Accounts.{totals}
+use Rattle.rules.proofs.Books.{books, removal}
+use Rattle.rules.proofs.Undecided.{no-decision}
 use Rattle.rules.proofs.Marks.{marks}
 use Rattle.rules.proofs.Budgets.{budgets}
 use Rattle.rules.proofs.Brought.{brings}
@@ -31,6 +35,7 @@ use Rattle.rules.proofs.Meaning.{meaning}
 use Rattle.rules.proofs.Demand3.{demand3}
 use Rattle.rules.proofs.Reached.{card-accepted, reply-accepted, reply-refused}
 use Rattle.turns.specs.declared.Change.{Change}
+use Rattle.turns.specs.declared.Change.the-variants.{Remove}
 use Rattle.turns.specs.declared.Core.{Core}
 use Rattle.turns.specs.declared.Report.{Report}
 use Rattle.turns.specs.declared.Reply.{Reply}
@@ -135,6 +140,7 @@ module _ (calls : List Asking) (now : Moment) (change : Change) where
               marks =
                   carried (λ k d. Marks (k .vcpus) (now .0) (asked change) (d .vcpus)) (marks (callsOf calls) call (none-after (no-row r e)));
               leaving = carried (λ k d. Leaving k call (d .remembered)) (leaving (callsOf calls) call (none-after (no-row r e)));
+              books = carried (λ k d. Books k call d) (books (callsOf calls) call (none-after (no-row r e)));
             };
       }
 
@@ -161,6 +167,10 @@ promised calls =
           subst (λ (l : List Exchange). All (ItsStay l) (card (made calls) .vcpus)) (sym (told calls))
           (subst (λ (k : Card). All (ItsStay (heard (callsOf calls))) (k .vcpus)) (sym (made-so calls .shows))
           (demand3 (callsOf calls) .every-vcpu));
+      totals = totals (callsOf calls);
+      removal = λ now t n. removal (callsOf calls) (callOf now (Remove t)) (t .0)
+          (subst (λ (k : Card). NoRow k (callOf now (Remove t))) (made-so calls .shows) n) refl;
+      no-decision = no-decision (card (made calls));
       next = next calls;
     }
 

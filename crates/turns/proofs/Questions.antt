@@ -8,7 +8,7 @@ use native.Mathlib.Omega.{arith}
 use lib.Dec.{ltb}
 use lib.ListN.{length, getD}
 use borrow.Author.Tests.{ltb-true, ne-eqb}
-use Rattle.units.specs.Units.{moment, amount, tunnel}
+use Rattle.units.specs.Units.{moment, amount, tunnel, total}
 use Rattle.units.specs.declared.Tunnel.{Tunnel}
 use Rattle.rules.specs.Lists.{All}
 use Rattle.rules.specs.Limits.{largestTunnel}
@@ -136,10 +136,12 @@ unread =
     record {
       due = [];
       ended = moment 0;
+      held = total 0;
       amount = [];
       period = amount 0;
       capacity = amount 0;
       usable = amount 0;
+      pending = amount 0;
       priority = 0;
       runnable = false;
       count = 0;

@@ -22,7 +22,7 @@ use Rattle.turns.specs.declared.Vcpu.{Vcpu}
 use Rattle.turns.specs.Laid.{laid}
 use Rattle.turns.specs.Written.{never, kindAs, boundaryAt, noTenant, written, shown, timerOf}
 use Rattle.turns.specs.Calls.{described}
-use Rattle.turns.specs.Steps.{hasQueue, leftOf, headOf, untilNext, usableAs, refilledOf, bare, Returnable}
+use Rattle.turns.specs.Steps.{hasQueue, leftOf, owingAs, headOf, untilNext, usableAs, refilledOf, bare, Returnable}
 use Rattle.turns.proofs.Written.{kind-left, kind-boundary, boundary-first}
 
 next-boundary : (now T b : ℕ) → 1 ≤ T → b ≤ now → now + T < never
@@ -45,18 +45,21 @@ module _ (now b : ℕ) (v : Tenant) (h : 1 ≤ v .terms .period) (k : b ≤ now)
         ended = v .ended;
         pending = [];
         boundary = some b;
+        pendingTotal = v .pendingTotal;
+        heldTotal = v .heldTotal;
       }
 
   refilled-bounded : refilledOf (written bounded) (moment now) ≡ written (refilled now b (broughtIn now bounded))
   unfolding refilledOf written laid
   refilled-bounded =
       same _ (moment (boundaryAfter now (v .terms .period) b)) _ (amount (leaves (v .terms) (v .runnable) (v .terms .capacity)))
-      (next-boundary now (v .terms .period) b h k l) (kind-left (v .terms) (v .runnable) (v .terms .capacity))
+      (amount (v .pendingTotal)) (amount (v .pendingTotal - 0)) (next-boundary now (v .terms .period) b h k l)
+      (kind-left (v .terms) (v .runnable) (v .terms .capacity)) (ap amount (omega arith))
     where
-      same : (m m′ : Moment) (u u′ : Amount) → m ≡ m′ → u ≡ u′
-          → usableAs (written bounded) (m ∷ laid 7 moment (moment never) []) (v .runnable) u
-          ≡ usableAs (written bounded) (m′ ∷ laid 7 moment (moment never) []) (v .runnable) u′
-      same m m′ u u′ p q = rw (p, q)
+      same : (m m′ : Moment) (u u′ a a′ : Amount) → m ≡ m′ → u ≡ u′ → a ≡ a′
+          → owingAs (usableAs (written bounded) (m ∷ laid 7 moment (moment never) []) (v .runnable) u) a
+          ≡ owingAs (usableAs (written bounded) (m′ ∷ laid 7 moment (moment never) []) (v .runnable) u′) a′
+      same m m′ u u′ a a′ p q r = rw (p, q, r)
 
   bounded-same : refilledOf (written bounded) (moment now) ≡ written (returned now bounded)
   bounded-same = rw (le-leb b now k) refilled-bounded
@@ -74,6 +77,8 @@ refilled-same now b v p e h k l =
           ended = v .ended;
           pending = q;
           boundary = o;
+          pendingTotal = v .pendingTotal;
+          heldTotal = v .heldTotal;
         } ≡ bounded now b v h k l
     is q o a c = rw (a, c)
 
@@ -92,10 +97,12 @@ newcomer d v ds u k =
     record {
       due = ds;
       ended = v .ended;
+      held = v .held;
       amount = v .amount;
       period = d .period;
       capacity = d .capacity;
       usable = u;
+      pending = v .pending;
       priority = d .priority;
       runnable = false;
       count = 0;

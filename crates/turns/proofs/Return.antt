@@ -1,7 +1,7 @@
 -- The return step on a written record: where the first n slots are due and the next is not, the record from the slot n on is as the rule
 -- leaves it, and so is the whole record where nothing is due. Assumes nothing.
 use Prim.Native.Nat.{ℕ, zero, suc, _+_, _-_, _≤_, _<_}
-use mathlib.Core.Path.{_≡_, refl, ap, sym, _∙_, subst}
+use mathlib.Core.Path.{_≡_, refl, ap, ap₂, sym, _∙_, subst}
 use mathlib.Core.Bool.{Bool, true, false}
 use mathlib.Core.List.{List, [], _∷_, _++_, map}
 use mathlib.Core.Option.{Option, none, some}
@@ -10,17 +10,18 @@ use lib.Dec.{ltb, eqb}
 use lib.ListN.{length, take, drop, getD, replicate, length-drop}
 use lib.Seq.{take-all}
 use borrow.Author.Tests.{ltb-false, le-leb, lt-leb, eqb-true, eqb-false}
-use Rattle.units.specs.Units.{moment, amount}
+use Rattle.units.specs.Units.{moment, amount, total}
 use Rattle.units.specs.declared.Moment.{Moment}
 use Rattle.units.specs.declared.Amount.{Amount}
 use Rattle.rules.specs.Lists.{sum}
 use Rattle.rules.specs.Vcpu.{Entry, times, comes}
 use Rattle.rules.specs.Vcpu.{Vcpu as Tenant}
 use Rattle.rules.specs.Return.{isDue, returned, refill, broughtIn, brought, still}
+use Rattle.rules.proofs.Queue.{brought-all}
 use Rattle.turns.specs.declared.Vcpu.{Vcpu}
 use Rattle.turns.specs.Laid.{laid}
 use Rattle.turns.specs.Written.{never, amountOf, kindAs, written, shown}
-use Rattle.turns.specs.Steps.{hasQueue, fromOf, ticksIn, returnedFirst, headOf, bare, Returnable}
+use Rattle.turns.specs.Steps.{hasQueue, fromOf, ticksIn, returnedFirst, owingAs, loweredOf, headOf, bare, Returnable}
 use Rattle.turns.proofs.Laid.{laid-length, laid-drop}
 use Rattle.turns.proofs.Written.{Formed, queue, refills, dueOf, withQueue, as-queue, boundary-none}
 
@@ -39,9 +40,9 @@ pub head-written : (v : Tenant) → headOf (written v) ≡ first (comes v)
 unfolding written
 head-written v = first-laid (comes v)
 
--- a tenant with other usable ticks and another queue
-abbrev queued : Tenant → ℕ → List Entry → Tenant
-queued v u q =
+-- a tenant with other usable ticks, another queue and another pending total
+abbrev queued : Tenant → ℕ → List Entry → ℕ → Tenant
+queued v u q t =
     record {
       terms = v .terms;
       runnable = v .runnable;
@@ -49,6 +50,8 @@ queued v u q =
       ended = v .ended;
       pending = q;
       boundary = v .boundary;
+      pendingTotal = t;
+      heldTotal = v .heldTotal;
     }
 
 abbrev asRecord : Tenant → List Moment → List Amount → ℕ → ℕ → Vcpu
@@ -56,10 +59,12 @@ asRecord v ds bs u n =
     record {
       due = ds;
       ended = moment (v .ended);
+      held = total (v .heldTotal);
       amount = bs;
       period = amount (v .terms .period);
       capacity = amount (v .terms .capacity);
       usable = amount u;
+      pending = amount (v .pendingTotal);
       priority = v .terms .priority;
       runnable = v .runnable;
       count = n;
@@ -74,9 +79,9 @@ bring-none : (now : ℕ) (v : Tenant) → now < first (map (λ e. e .due) (v .pe
 bring-none now v h = go (v .pending) refl h
   where
     go : (q : List Entry) → v .pending ≡ q → now < first (map (λ e. e .due) q)
-        → queued v (v .usable + brought now (v .pending)) (still now (v .pending)) ≡ v
-    go [] e g = rw e (ap (λ (u : ℕ). queued v u []) (omega arith))
-    go (f ∷ q) e g = rw (e, lt-leb (f .due) now g) (ap (λ (u : ℕ). queued v u (f ∷ q)) (omega arith))
+        → queued v (v .usable + brought now (v .pending)) (still now (v .pending)) (v .pendingTotal - brought now (v .pending)) ≡ v
+    go [] e g = rw e (ap₂ (λ (u t : ℕ). queued v u [] t) (omega arith) (omega arith))
+    go (f ∷ q) e g = rw (e, lt-leb (f .due) now g) (ap₂ (λ (u t : ℕ). queued v u (f ∷ q) t) (omega arith) (omega arith))
 
 refill-none : (now : ℕ) (o : Option ℕ) (v : Tenant) → now < first (times o) → refill now o v ≡ v
 refill-none now none v h = refl
@@ -199,7 +204,7 @@ due-more w now n d e i h = go (eqb i n) refl
 -- n slots of a record that has a queue can be taken, and what is left is as the rule leaves it
 pub record Swept (w : Vcpu) (now : Moment) (n : ℕ) : Type 0 where
   pub asks : ((n ≤ w .count) × (n ≤ 8)) × (w .usable .0 + ticksIn n (w .amount) < 4294967296)
-  pub end : returnedFirst n w ≡ written (returned (now .0) (bare w))
+  pub end : returnedFirst n w ≡ owingAs (written (returned (now .0) (bare w))) (w .pending)
 
 module _ (w : Vcpu) (now : Moment) (r : Returnable w now) (k : hasQueue (w .kind) ≡ true) where
   alone : bare w .boundary ≡ none
@@ -212,8 +217,8 @@ module _ (w : Vcpu) (now : Moment) (r : Returnable w now) (k : hasQueue (w .kind
   laid-out : w ≡ withQueue (bare w) q
   laid-out = r .written ∙ as-queue (bare w) alone
 
-  ends : (n : ℕ) → Front (now .0) n q → returnedFirst n w ≡ written (returned (now .0) (bare w))
-  unfolding returnedFirst written
+  ends : (n : ℕ) → Front (now .0) n q → returnedFirst n w ≡ owingAs (written (returned (now .0) (bare w))) (w .pending)
+  unfolding returnedFirst written shown
   ends n f =
       ap (returnedFirst n) laid-out
       ∙ same-record (bare w)
@@ -225,8 +230,8 @@ module _ (w : Vcpu) (now : Moment) (r : Returnable w now) (k : hasQueue (w .kind
       (from-laid amountOf (amount 0) (amount 0) n q (f .enough) (r .few) ∙ ap (laid 8 amountOf (amount 0)) (sym (f .rest)))
       (ap (λ (t : ℕ). bare w .usable + t) (ticks-laid 8 n q (f .enough) (r .few) ∙ sym (f .ticks)))
       (sym (ap length (f .rest) ∙ length-drop n q))
-      ∙ sym (as-queue (broughtIn (now .0) (bare w)) alone)
-      ∙ ap (λ (o : Option ℕ). written (refill (now .0) o (broughtIn (now .0) (bare w)))) (sym alone)
+      ∙ ap (λ (x : Vcpu). owingAs x (w .pending)) (sym (as-queue (broughtIn (now .0) (bare w)) alone)
+      ∙ ap (λ (o : Option ℕ). written (refill (now .0) o (broughtIn (now .0) (bare w)))) (sym alone))
 
   pub swept : (n : ℕ) → n ≤ 8 → Due w now n → (n < 8 → now .0 < dueAt w n) → Swept w now n
   unfolding shown
@@ -252,3 +257,24 @@ module _ (w : Vcpu) (now : Moment) (r : Returnable w now) (k : hasQueue (w .kind
       f = front (now .0) 8 n q (omega (arith, r .time)) (r .few) h
           (λ i j. subst (λ (ds : List Moment). (getD ds i (moment 0)) .0 ≤ now .0) dues (d i j))
           (λ j. subst (λ (ds : List Moment). now .0 < (getD ds n (moment 0)) .0) dues (e j))
+
+  -- what the step brought is what is usable more, and was pending
+  brings : written (returned (now .0) (bare w)) ≡ written (broughtIn (now .0) (bare w))
+  brings = ap (λ (o : Option ℕ). written (refill (now .0) o (broughtIn (now .0) (bare w)))) alone
+
+  was-pending : brought (now .0) q ≤ bare w .pendingTotal
+  was-pending = omega (arith, brought-all (now .0) q, r .adds)
+
+  pub lowers-asks : let x = owingAs (written (returned (now .0) (bare w))) (w .pending) in
+      (w .usable .0 ≤ x .usable .0) × (x .usable .0 - w .usable .0 ≤ w .pending .0)
+  unfolding written shown
+  lowers-asks =
+      subst (λ (x : Vcpu). (w .usable .0 ≤ x .usable .0) × (x .usable .0 - w .usable .0 ≤ w .pending .0)) (sym brings)
+      (omega arith, omega (arith, was-pending))
+
+  pub lowers : loweredOf w (owingAs (written (returned (now .0) (bare w))) (w .pending)) ≡ written (returned (now .0) (bare w))
+  unfolding written shown
+  lowers =
+      ap (λ (x : Vcpu). loweredOf w (owingAs x (w .pending))) brings
+      ∙ ap (λ (n : ℕ). owingAs (written (broughtIn (now .0) (bare w))) (amount n)) (omega arith)
+      ∙ sym brings

@@ -10,7 +10,7 @@ use lib.ListN.{length, getD, take, drop, length-take, drop-of-length-le}
 use lib.Seq.{drop-cons, getD-take}
 use native.Mathlib.Numerals.{add-one}
 use borrow.Author.Tests.{lt-ltb}
-use Rattle.units.specs.Units.{moment, amount, tunnel}
+use Rattle.units.specs.Units.{moment, amount, tunnel, total}
 use Rattle.units.specs.declared.Moment.{Moment}
 use Rattle.units.specs.declared.Tunnel.{Tunnel}
 use Rattle.rules.specs.Lists.{keep, All}
@@ -25,6 +25,7 @@ use Rattle.rules.specs.Turn.{settled, report, reported, answered, accepted, tur
 use Rattle.rules.specs.Refuse.{refusal}
 use Rattle.rules.specs.Refuse.{Refusal as Row}
 use Rattle.units.specs.declared.Amount.{Amount}
+use Rattle.units.specs.declared.Total.{Total}
 use Rattle.turns.specs.declared.Answer.{Answer}
 use Rattle.turns.specs.declared.Change.{Change}
 use Rattle.turns.specs.declared.Holder.{Holder}
@@ -140,29 +141,32 @@ module _ (now : ℕ) (vs : List Tenant) (l : now ≤ largestTime) (r : Between n
           (a .inside) (r .few)) ∙ ap (λ (x : Tenant). some (x .terms .tunnel)) (a .is))
 
   -- what is written is shown again
-  pub shown-again : (rs : List Remembered) → length rs ≤ 32 → card (coreOf (settled now vs rs)) ≡ settled now vs rs
+  pub shown-again : (rs : List Remembered) (g i : ℕ) → length rs ≤ 32
+      → card (coreOf (settled now vs rs g i)) ≡ settled now vs rs g i
   unfolding card coreOf settled
-  shown-again rs few =
+  shown-again rs g i few =
       same (runningAt (placeOf (runs (choose vs)) vs) (idsOf vs)) (timerAt (timerOf (timer now vs (choose vs))))
       (tenants (length vs) (idsOf vs) (placesOf vs)) (memories (memoryOf rs))
       running-back timer-back (tenants-laid (tunnel nobody) (written noTenant) 32 vs (r .few) (all-show vs (all-fit now vs (r .each))))
       (memory-shown rs few)
     where
+      asCard : Option ℕ → Option ℕ → List Tenant → List Remembered → Card
+      asCard a b c d = record { last = now; running = a; timer = b; vcpus = c; remembered = d; removed = g; idle = i }
+
       same : (a : Option ℕ) (b : Option ℕ) (c : List Tenant) (d : List Remembered) → a ≡ runs (choose vs) → b ≡ timer now vs (choose vs)
           → c ≡ vs → d ≡ rs
-          → _≡_ {A = Card} (record { last = now; running = a; timer = b; vcpus = c; remembered = d })
-          (record { last = now; running = runs (choose vs); timer = timer now vs (choose vs); vcpus = vs; remembered = rs })
+          → asCard a b c d ≡ asCard (runs (choose vs)) (timer now vs (choose vs)) vs rs
       same a b c d p q s t = rw (p, q, s, t)
 
-  pub core-sound : (rs : List Remembered) → length rs ≤ 32 → (calls : List Call) → settled now vs rs ≡ after calls
-      → SoundCore (coreOf (settled now vs rs))
+  pub core-sound : (rs : List Remembered) (g i : ℕ) → length rs ≤ 32 → (calls : List Call) → settled now vs rs g i ≡ after calls
+      → SoundCore (coreOf (settled now vs rs g i))
   unfolding settled
-  core-sound rs few calls e =
+  core-sound rs g i few calls e =
       record {
-        written = ap coreOf (sym (shown-again rs few));
+        written = ap coreOf (sym (shown-again rs g i few));
         calls = calls;
-        shows = shown-again rs few ∙ e;
-        ranked = subst (λ (k : Card). Ranked (termsOf (k .vcpus))) (sym (shown-again rs few)) (r .ranked);
+        shows = shown-again rs g i few ∙ e;
+        ranked = subst (λ (k : Card). Ranked (termsOf (k .vcpus))) (sym (shown-again rs g i few)) (r .ranked);
       }
 
   seat-found : (pickFor never 0 vs (choose vs)) .at ≡ placeOf (runs (choose vs)) vs
@@ -212,6 +216,11 @@ module _ (now : ℕ) (vs : List Tenant) (l : now ≤ largestTime) (r : Between n
   pub timer-said : timerAt ((timerFor (moment now) (pickFor never 0 vs (choose vs))) .0) ≡ timer now vs (choose vs)
   timer-said = ap (λ (m : Moment). timerAt (m .0)) timer-found ∙ timer-back
 
+  -- a core by its fields
+  abbrev coreWith : List Vcpu → Moment → List Tunnel → Moment → Memory → Total → Total → ℕ → ℕ → Core
+  coreWith p last ids t m g i a n =
+      record { places = p; last = last; ids = ids; timer = t; memory = m; removed = g; idle = i; running = a; n = n }
+
   module _ (p : List Vcpu) (ids : List Tunnel) (n : ℕ) (f : Filled p ids n vs) where
     -- `T` has the time reported of each, and `ts` these times by their places
     pub pick-found : (T : Tenant → Moment) (ts : List Moment) → ts ≡ laid 32 T (moment never) vs
@@ -232,27 +241,18 @@ module _ (now : ℕ) (vs : List Tenant) (l : now ≤ largestTime) (r : Between n
             → picks (idleWith never) 0 (take n p) (take n ts) ≡ picks (idleWith never) 0 (take m q) (take m us)
         same p q n m ts us a b c = rw (a, b, c)
 
-    core-found : (rs : List Remembered) (m : Memory) → m ≡ memoryOf rs → (k : Pick) → k ≡ pickFor never 0 vs (choose vs)
-        → _≡_ {A = Core}
-        (record { places = p; last = moment now; ids = ids; timer = timerFor (moment now) k; memory = m; running = k .at; n = n })
-        (coreOf (settled now vs rs))
+    core-found : (rs : List Remembered) (m : Memory) → m ≡ memoryOf rs → (g i : ℕ) (k : Pick) → k ≡ pickFor never 0 vs (choose vs)
+        → coreWith p (moment now) ids (timerFor (moment now) k) m (total g) (total i) (k .at) n ≡ coreOf (settled now vs rs g i)
     unfolding coreOf settled
-    core-found rs m i k e =
-        same p ids (timerFor (moment now) k) m (k .at) n (f .places) (f .tunnels) (ap (timerFor (moment now)) e ∙ timer-found) i
+    core-found rs m y g i k e =
+        same p ids (timerFor (moment now) k) m (k .at) n (f .places) (f .tunnels) (ap (timerFor (moment now)) e ∙ timer-found) y
         (ap (λ (x : Pick). x .at) e ∙ seat-found) (f .count)
       where
         same : (p : List Vcpu) (ids : List Tunnel) (t : Moment) (m : Memory) (a n : ℕ) → p ≡ placesOf vs → ids ≡ idsOf vs
             → t ≡ moment (timerOf (timer now vs (choose vs))) → m ≡ memoryOf rs → a ≡ placeOf (runs (choose vs)) vs → n ≡ length vs
-            → _≡_ {A = Core} (record { places = p; last = moment now; ids = ids; timer = t; memory = m; running = a; n = n })
-            (record {
-              places = placesOf vs;
-              last = moment now;
-              ids = idsOf vs;
-              timer = moment (timerOf (timer now vs (choose vs)));
-              memory = memoryOf rs;
-              running = placeOf (runs (choose vs)) vs;
-              n = length vs;
-            })
+            → coreWith p (moment now) ids t m (total g) (total i) a n
+            ≡ coreWith (placesOf vs) (moment now) (idsOf vs) (moment (timerOf (timer now vs (choose vs)))) (memoryOf rs) (total g) (total i)
+            (placeOf (runs (choose vs)) vs) (length vs)
         same p ids t m a n u v w z x y = rw (u, v, w, z, x, y)
 
 -- one place more of the scan, and its end
@@ -296,22 +296,23 @@ turned-refused c now change x r e =
 pub answer-found : (now : Moment) (vs : List Tenant) → now .0 ≤ largestTime → Between (now .0) vs
     → (p : List Vcpu) (ids : List Tunnel) (n : ℕ) → Filled p ids n vs
     → (rs : List Remembered) (m : Memory) → m ≡ memoryOf rs
+    → (g : Total) (g′ : ℕ) → g ≡ total g′ → (i : Total) (i′ : ℕ) → i ≡ total i′
     → (k : Pick) → k ≡ pickFor never 0 vs (choose vs)
     → (t : Moment) → t ≡ timerFor now k → (h : Holder) → h ≡ holderOf ids (k .at) → (s : Timer) → s ≡ timerSaid (timerAt (t .0))
     → (b : Amount) (x : ℕ) → b .0 ≡ x
     → _≡_ {A = Answer}
     (record {
-      core = record { places = p; last = now; ids = ids; timer = t; memory = m; running = k .at; n = n };
+      core = record { places = p; last = now; ids = ids; timer = t; memory = m; removed = g; idle = i; running = k .at; n = n };
       reply = Done (record { time = now; run = h; usable = k .usable; timer = s; brought = b });
     })
-    (answerOf (record { reply = ok (report x (settled (now .0) vs rs)); card = settled (now .0) vs rs }))
+    (answerOf (record { reply = ok (report x (settled (now .0) vs rs g′ i′)); card = settled (now .0) vs rs g′ i′ }))
 unfolding settled
-answer-found now vs l r p ids n f rs m i k e t te h he s se b x be =
-    same (record { places = p; last = now; ids = ids; timer = t; memory = m; running = k .at; n = n }) (coreOf (settled (now .0) vs rs)) h
+answer-found now vs l r p ids n f rs m y g g′ ge i i′ ie k e t te h he s se b x be =
+    same (record { places = p; last = now; ids = ids; timer = t; memory = m; removed = g; idle = i; running = k .at; n = n })
+    (coreOf (settled (now .0) vs rs g′ i′)) h
     (holderSaid (runs
     (choose vs))) (k .usable) (amount (usableOf (choose vs))) s (timerSaid (timer (now .0) vs (choose vs)))
-    (ap (λ (x : Moment). record { places = p; last = now; ids = ids; timer = x; memory = m; running = k .at; n = n }) te
-    ∙ core-found (now .0) vs l r p ids n f rs m i k e)
+    (as-told te ge ie ∙ core-found (now .0) vs l r p ids n f rs m y g′ i′ k e)
     (he ∙ ap (λ (x : Pick). holderOf ids (x .at)) e
     ∙ ap (λ (i : List Tunnel). holderOf i ((pickFor never 0 vs (choose vs)) .at)) (f .tunnels)
     ∙ holder-found (now .0) vs l r)
@@ -319,6 +320,21 @@ answer-found now vs l r p ids n f rs m i k e t te h he s se b x be =
     (se ∙ ap (λ (x : Moment). timerSaid (timerAt (x .0))) (te ∙ ap (timerFor now) e) ∙ ap timerSaid (timer-said (now .0) vs l r))
     (ap amount be)
   where
+    as-told : t ≡ timerFor now k → g ≡ total g′ → i ≡ total i′
+        → _≡_ {A = Core} (record { places = p; last = now; ids = ids; timer = t; memory = m; removed = g; idle = i; running = k .at; n = n })
+        (record {
+          places = p;
+          last = now;
+          ids = ids;
+          timer = timerFor now k;
+          memory = m;
+          removed = total g′;
+          idle = total i′;
+          running = k .at;
+          n = n;
+        })
+    as-told u v w = rw (u, v, w)
+
     same : (c c′ : Core) (h h′ : Holder) (u u′ : Amount) (s s′ : Timer) → c ≡ c′ → h ≡ h′ → u ≡ u′ → s ≡ s′ → b ≡ amount x
         → _≡_ {A = Answer} (record { core = c; reply = Done (record { time = now; run = h; usable = u; timer = s; brought = b }) })
         (record { core = c′; reply = Done (record { time = now; run = h′; usable = u′; timer = s′; brought = amount x }) })
@@ -330,8 +346,8 @@ empty-between = record { few = omega arith; each = tt; distinct = tt; ranked = t
 
 pub empty-shown : card (coreOf empty) ≡ empty
 unfolding settled timer
-empty-shown = shown-again 0 [] (omega arith) empty-between [] (omega arith)
+empty-shown = shown-again 0 [] (omega arith) empty-between [] 0 0 (omega arith)
 
 pub empty-sound : SoundCore (coreOf empty)
 unfolding settled timer
-empty-sound = core-sound 0 [] (omega arith) empty-between [] (omega arith) [] refl
+empty-sound = core-sound 0 [] (omega arith) empty-between [] 0 0 (omega arith) [] refl

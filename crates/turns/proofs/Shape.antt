@@ -1,5 +1,5 @@
--- The change on the written table, on who is remembered beside it and on the times reported: a newcomer put in, a mark set, one taken out
--- that is remembered then, or nothing. Assumes nothing.
+-- The change on the written table, on who is remembered beside it, the ticks of removed tenants and the times reported: a newcomer put in,
+-- a mark set, one taken out that is remembered then and whose ticks are added, or nothing. Assumes nothing.
 use Prim.Native.Nat.{ℕ, zero, suc, _+_, _-_, _≤_, _<_}
 use mathlib.Core.Path.{_≡_, refl, ap, sym, _∙_, subst}
 use mathlib.Core.Bool.{Bool, true, false, cond, not, _||_}
@@ -9,7 +9,8 @@ use native.Mathlib.Omega.{arith}
 use lib.Dec.{eqb}
 use lib.ListN.{length, getD, set}
 use Rattle.rules.specs.Refuse.{admitRows, namingRows, callRows}
-use Rattle.units.specs.Units.{moment, tunnel}
+use Rattle.units.specs.Units.{moment, tunnel, total, together}
+use Rattle.units.specs.declared.Total.{Total}
 use Rattle.units.specs.declared.Moment.{Moment}
 use Rattle.units.specs.declared.Tunnel.{Tunnel}
 use Rattle.rules.specs.Limits.{largestPeriod, largestTime}
@@ -21,6 +22,7 @@ use Rattle.rules.specs.Remember.{Remembered, leavesUntil, remembering, leftBy, 
 use Rattle.rules.specs.Card.{Card, onCard, find, toNamed}
 use Rattle.rules.specs.Change.{placed, setRunnable, admit, wake, leaving}
 use Rattle.rules.specs.Change.{change as changeRule}
+use Rattle.rules.specs.Ledger.{heldOf, handedOver}
 use Rattle.rules.specs.Told.{Told}
 use Rattle.rules.specs.Turn.{afterCharge, afterReturn, toldBy}
 use Rattle.turns.specs.declared.Vcpu.{Vcpu}
@@ -40,6 +42,8 @@ use Rattle.turns.proofs.Written.{kind-left}
 use Rattle.turns.proofs.Places.{place-there, find-there, named-set, removed-cut, spotOf, spot-most, spot-laid, placed-put}
 use Rattle.turns.proofs.Ranked.{all-get, return-terms, named-terms, placed-ranked, keep-ranked}
 use Rattle.turns.proofs.Rows.{idsOf, there, named-seek}
+use Rattle.rules.specs.Accounts.{allHeld}
+use Rattle.rules.proofs.Lists.{sum-among}
 use Rattle.rules.proofs.Named.{named-says, found}
 use Rattle.rules.proofs.Sound.{Sound}
 use Rattle.rules.proofs.Memory.{leaves-within}
@@ -187,12 +191,14 @@ module _ (k : Card) (now : ℕ) where
       go (Remove t) m s = keep-ranked (λ v. not (named (t .0) v)) (afterReturn k now) s
       go Tick m s = s
 
--- the table: its places, its identifiers and its count; and beside it who is remembered, and the times that step 2 reported
+-- the table: its places, its identifiers and its count; and beside it who is remembered, the ticks of removed tenants, and the times that
+-- step 2 reported
 pub record Table : Type 0 where
   pub places : List Vcpu
   pub ids : List Tunnel
   pub n : ℕ
   pub memory : Memory
+  pub removed : Total
   pub next : List Moment
 
 -- what each change makes of it; `at` is the place that the call names, and `z` what a read past the end would give
@@ -203,6 +209,7 @@ marked b at z x =
       ids = x .ids;
       n = x .n;
       memory = x .memory;
+      removed = x .removed;
       next = x .next;
     }
 
@@ -213,6 +220,7 @@ changedTable now (Admit d) at z x =
       ids = inserted (spotIn (described d) (x .n) (x .places) (x .ids)) (d .tunnel) (x .ids);
       n = x .n + 1;
       memory = x .memory;
+      removed = x .removed;
       next = inserted (spotIn (described d) (x .n) (x .places) (x .ids)) (moment never) (x .next);
     }
 changedTable now (Wake t) at z x = marked true at z x
@@ -223,6 +231,7 @@ changedTable now (Remove t) at z x =
       ids = removed at (tunnel nobody) (x .ids);
       n = x .n - 1;
       memory = leavingOf (x .memory) t (getD (x .places) at z);
+      removed = together (x .removed) (getD (x .places) at z .held);
       next = removed at (moment never) (x .next);
     }
 changedTable now Tick at z x = x
@@ -241,9 +250,10 @@ Changeable (Block t) at z x = at < 32
 Changeable (Remove t) at z x = Removable at z x
 Changeable Tick at z x = Unit
 
-pub record FilledBy (x : Table) (vs : List Tenant) (rs : List Remembered) (ts : List Told) : Type 0 where
+pub record FilledBy (x : Table) (vs : List Tenant) (rs : List Remembered) (ts : List Told) (gone : ℕ) : Type 0 where
   pub table : Filled (x .places) (x .ids) (x .n) vs
   pub memory : x .memory ≡ memoryOf rs
+  pub removed : x .removed ≡ total gone
   pub next : x .next ≡ timesOf ts vs
 
 -- an accepted call, after steps 1 and 2
@@ -252,10 +262,12 @@ pub record Stepped (k : Card) (now : ℕ) : Type 0 where
   pub few : length (k .vcpus) + length (kept now (k .remembered)) ≤ 32
   pub time : now ≤ largestTime
   pub sound : All (Sound now) (afterReturn k now)
+  -- the ticks held, those of removed tenants included, are no more than there were
+  pub within : allHeld (afterReturn k now) + k .removed ≤ now
 
 -- .. finds its place, and leaves the rules' lists after the change, written
 module _ (k : Card) (now : ℕ) (l : Stepped k now) (x : Table)
-    (f : FilledBy x (afterReturn k now) (kept now (k .remembered)) (toldBy k now)) where
+    (f : FilledBy x (afterReturn k now) (kept now (k .remembered)) (toldBy k now) (k .removed)) where
   abbrev vs : List Tenant
   vs = afterReturn k now
 
@@ -264,6 +276,9 @@ module _ (k : Card) (now : ℕ) (l : Stepped k now) (x : Table)
 
   r : Listed vs
   r = return-listed k now (l .listed)
+
+  none-more : x .removed ≡ total (k .removed + 0)
+  none-more = f .removed ∙ ap total (omega arith)
 
   at-place : (t at : ℕ) → at ≡ seek t (idsOf (k .vcpus)) → namingRows (k .vcpus) t ≡ none → at ≡ place t vs
   at-place t at e m = e ∙ named-seek (k .vcpus) (l .listed .few) t m ∙ sym (return-place k now t)
@@ -285,7 +300,7 @@ module _ (k : Card) (now : ℕ) (l : Stepped k now) (x : Table)
     at-small : at < 32
     at-small = omega (arith, small, f .table .count, r .few)
 
-    marks : (b : Bool) (z : Vcpu) → FilledBy (marked b at z x) (toNamed t (setRunnable b) vs) (rs ++ []) (toldBy k now)
+    marks : (b : Bool) (z : Vcpu) → FilledBy (marked b at z x) (toNamed t (setRunnable b) vs) (rs ++ []) (toldBy k now) (k .removed + 0)
     marks b z =
         record {
           table =
@@ -293,6 +308,7 @@ module _ (k : Card) (now : ℕ) (l : Stepped k now) (x : Table)
               (sym (ap (λ (v : Vcpu). runnableAs v b) (read z) ∙ mark-written there-now b))
               (mark-filled (x .places) (x .ids) (x .n) vs (f .table) r t at (at-place t at e m) (named-place k now t m) b z);
           memory = f .memory ∙ ap memoryOf (sym (append-nil rs));
+          removed = none-more;
           next = f .next ∙ heard-marked (toldBy k now) t b vs;
         }
 
@@ -320,6 +336,15 @@ module _ (k : Card) (now : ℕ) (l : Stepped k now) (x : Table)
     its-name : gone .terms .tunnel ≡ t .0
     its-name = named-says (t .0) gone (found (t .0) vs gone is-found .1)
 
+    -- .. and what it held is added to the ticks of removed tenants
+    hands-over : (z : Vcpu) → together (x .removed) (getD (x .places) at z .held) ≡ total (k .removed + heldOf (find (t .0) vs))
+    unfolding written
+    hands-over z =
+        ap (λ (v : Vcpu). together (x .removed) (v .held)) (read (t .0) at e m z)
+        ∙ ap (λ (g : Total). together g (total (gone .heldTotal))) (f .removed)
+        ∙ ap total (omega (arith, l .within, sum-among (λ v. v .heldTotal) vs gone (found (t .0) vs gone is-found .0)))
+        ∙ ap (λ (o : Option Tenant). total (k .removed + heldOf o)) (sym is-found)
+
     left : (z : Vcpu) → leavingOf (x .memory) t (getD (x .places) at z) ≡ memoryOf (rs ++ leftBy (find (t .0) vs))
     left z =
         ap (λ (y : Memory). leavingOf y t (getD (x .places) at z)) (f .memory)
@@ -345,11 +370,13 @@ module _ (k : Card) (now : ℕ) (l : Stepped k now) (x : Table)
   pub change-filled : (change : Change) (at : ℕ) (z : Vcpu) → at ≡ namedAt (idsOf (k .vcpus)) change
       → callRows (k .vcpus) rs (asked change) ≡ none
       → FilledBy (changedTable now change at z x) (changeRule now (asked change) vs) (rs ++ leaving (asked change) vs) (toldBy k now)
+      (k .removed + handedOver (asked change) vs)
   change-filled (Admit d) at z e m =
       let q = admits-after k now rs d m in
       record {
         table = admit-filled (x .places) (x .ids) (x .n) vs (f .table) r now rs d q;
         memory = f .memory ∙ ap memoryOf (sym (append-nil rs));
+        removed = none-more;
         next =
             put-filled (x .places) (x .ids) (x .n) vs (f .table) r now rs d q (saidOf (toldBy k now)) (moment never) (moment never)
             (x .next) (f .next) (sym (heard-new now (afterCharge k now) (admitted now (described d)) (q .not-there)));
@@ -361,8 +388,10 @@ module _ (k : Card) (now : ℕ) (l : Stepped k now) (x : Table)
         table =
             remove-filled (x .places) (x .ids) (x .n) vs (f .table) r (t .0) at (at-place (t .0) at e m) (named-place k now (t .0) m);
         memory = left t at e m z;
+        removed = hands-over t at e m z;
         next =
             cut-filled (x .places) (x .ids) (x .n) vs (f .table) r (t .0) at (at-place (t .0) at e m) (named-place k now (t .0) m)
             (saidOf (toldBy k now)) (moment never) (x .next) (f .next);
       }
-  change-filled Tick at z e m = record { table = f .table; memory = f .memory ∙ ap memoryOf (sym (append-nil rs)); next = f .next }
+  change-filled Tick at z e m =
+      record { table = f .table; memory = f .memory ∙ ap memoryOf (sym (append-nil rs)); removed = none-more; next = f .next }

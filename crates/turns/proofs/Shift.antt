@@ -14,7 +14,7 @@ use Rattle.units.specs.declared.Tunnel.{Tunnel}
 use Rattle.rules.specs.Vcpu.{moreUrgent}
 use Rattle.rules.specs.Vcpu.{Description as Terms}
 use Rattle.turns.specs.declared.Vcpu.{Vcpu}
-use Rattle.turns.specs.Places.{seek, urgency, spotIn, inserted, removed}
+use Rattle.turns.specs.Places.{seek, nearerOf, leastIn, urgency, spotIn, inserted, removed}
 
 module _ (t : ℕ) (l : List Tunnel) (k : ℕ) (h : k < length l) where
   pub seek-here : eqb (getD l k (tunnel 0) .0) t ≡ true → seek t (drop k l) ≡ 0
@@ -111,3 +111,8 @@ spot-start d n vs ts = let e : n - 0 ≡ n = omega arith in rw e (omega arith)
 
 pub spot-end : (d : Terms) (n : ℕ) (vs : List Vcpu) (ts : List Tunnel) (k : ℕ) → n ≡ k → k + spotIn d (n - k) (drop k vs) (drop k ts) ≡ k
 spot-end d n vs ts k h = let e : n - k ≡ 0 = omega arith in rw e (omega arith)
+
+-- one place more of the search for the smallest identifier
+pub least-on : (low best : ℕ) (ids : List Tunnel) (k : ℕ) → k < length ids
+    → leastIn low (nearerOf low best (getD ids k (tunnel 0) .0)) (drop (k + 1) ids) ≡ leastIn low best (drop k ids)
+least-on low best ids k h = rw (add-one, drop-cons ids k (tunnel 0) h)

@@ -9,16 +9,20 @@ use native.Mathlib.Omega.{arith}
 use lib.Dec.{eqb}
 use lib.ListN.{length, getD, set, length-set}
 use lib.Seq.{set-getD}
-use borrow.Author.Tests.{eq-eqb, ne-eqb}
-use Rattle.units.specs.Units.{moment, amount, tunnel}
+use borrow.Author.Tests.{eq-eqb, ne-eqb, lt-ltb, le-ltb}
+use Rattle.units.specs.Units.{moment, amount, total, tunnel}
 use Rattle.units.specs.declared.Moment.{Moment}
+use Rattle.units.specs.declared.Total.{Total}
 use Rattle.units.specs.declared.Tunnel.{Tunnel}
 use Rattle.rules.specs.Lists.{keep, sum, All}
 use Rattle.rules.specs.Vcpu.{Description, Entry, moreUrgent}
 use Rattle.rules.specs.Vcpu.{Vcpu as Tenant}
 use Rattle.rules.specs.Charge.{charged, charge}
 use Rattle.rules.specs.Choose.{ready, better, mostUrgent, choose, runs}
-use Rattle.rules.specs.Turn.{afterCharge, afterReturn}
+use Rattle.rules.specs.Card.{Card}
+use Rattle.rules.specs.Turn.{afterCharge, afterReturn, idleThen}
+use Rattle.rules.specs.Accounts.{allHeld}
+use Rattle.rules.proofs.Accounts.{held-within, idle-within}
 use Rattle.rules.specs.History.{holds as isHeldBy}
 use Rattle.rules.proofs.Tests.{no-some}
 use Rattle.rules.proofs.Lists.{all-imp, all-keep, length-keep}
@@ -33,8 +37,8 @@ use Rattle.turns.specs.declared.Change.{Change}
 use Rattle.turns.specs.Laid.{laid}
 use Rattle.turns.specs.Written.{idle, never, nobody, amountOf, tunnelOf, written, noTenant, card, coreOf, place, placeOf, timerOf}
 use Rattle.turns.specs.Written.{tenants, memories, memoryOf}
-use Rattle.turns.proofs.Invariant.{Distinct, termsOf, Fits, SoundCore, between, card-reached, means, kept-fits}
-use Rattle.turns.specs.Steps.{chargedOf, Chargeable}
+use Rattle.turns.proofs.Invariant.{Distinct, termsOf, Fits, SoundCore, between, card-reached, held-most, means, kept-fits}
+use Rattle.turns.specs.Steps.{chargedOf, idledOf, Chargeable}
 use Rattle.turns.proofs.Laid.{laid-get, laid-set}
 use Rattle.turns.proofs.Written.{Shows, tenants-laid}
 use Rattle.turns.proofs.Places.{named-set}
@@ -150,7 +154,7 @@ module _ (c : Core) (r : SoundCore c) where
   unfolding coreOf
   n-is = ap (λ (d : Core). d .n) (r .written)
 
-  last-is : c .last ≡ moment (card c .last)
+  pub last-is : c .last ≡ moment (card c .last)
   unfolding coreOf
   last-is = ap (λ (d : Core). d .last) (r .written)
 
@@ -191,6 +195,14 @@ module _ (c : Core) (r : SoundCore c) where
 
     pub kept-few : length (card c .vcpus) + length (kept now (card c .remembered)) ≤ 32
     kept-few = omega (arith, means c r .few-together, length-keep (isKept now) (card c .remembered))
+
+  pub removed-is : c .removed ≡ total (card c .removed)
+  unfolding coreOf
+  removed-is = ap (λ (d : Core). d .removed) (r .written)
+
+  idle-kept : c .idle ≡ total (card c .idle)
+  unfolding coreOf
+  idle-kept = ap (λ (d : Core). d .idle) (r .written)
 
   running-is : c .running ≡ placeOf (card c .running) (card c .vcpus)
   unfolding coreOf
@@ -260,6 +272,12 @@ module _ (c : Core) (r : SoundCore c) (now : Moment) (change : Change) (m : Pass
   inside : place (w .terms .tunnel) (card c .vcpus) < length (card c .vcpus)
   inside = h .at .inside
 
+  held-few : w .heldTotal ≤ card c .last
+  held-few =
+      subst (λ (x : Tenant). x .heldTotal ≤ card c .last) (h .at .is)
+      (all-get (λ x. x .heldTotal ≤ card c .last) (card c .vcpus) (place (w .terms .tunnel) (card c .vcpus)) noTenant (held-most c r)
+      (h .at .inside))
+
   held-record : (z : Vcpu) → getD (c .places) (c .running) z ≡ written w
   held-record z =
       ap (λ (p : List Vcpu). getD p (c .running) z) (places-are c r)
@@ -276,6 +294,7 @@ module _ (c : Core) (r : SoundCore c) (now : Moment) (change : Change) (m : Pass
         onward = m .not-before;
         enough = enough;
         fits = λ k. omega (arith, slot-most 8 k (w .pending), sound .most, sound .range .capacity-high, sound .range .period-high);
+        owed = omega (arith, sound .adds, sound .most, sound .range .capacity-high, sound .range .period-high);
       }
 
   held-chargeable : (z : Vcpu) → Chargeable (getD (c .places) (c .running) z) (c .last) now
@@ -318,7 +337,8 @@ module _ (c : Core) (r : SoundCore c) (now : Moment) (change : Change) (m : Pass
     where
       written-charge : chargedOf (written w) (moment (card c .last)) now ≡ written (charged (card c .last) (now .0) w)
       written-charge = charged-same (card c .last) (now .0 - card c .last) w (sound .few)
-          (omega (arith, m .not-above, m .not-before, sound .range .period-high)) (λ e. sound .sporadic e .0)
+          (omega (arith, m .not-above, m .not-before, sound .range .period-high)) (omega (arith, m .not-above, m .not-before, held-few))
+          (λ e. sound .sporadic e .0)
           (now .0) (m .not-before) refl
 
       same : set (c .places) (c .running) (chargedOf (getD (c .places) (c .running) z) (c .last) now)
@@ -352,6 +372,13 @@ pub record Stands (p : List Vcpu) (ids : List Tunnel) (n : ℕ) (vs : List Tenan
   pub filled : Filled p ids n vs
   pub fits : All Fits vs
 
+-- .. and the ticks held are no more than have passed
+pub held-there : (c : Core) (r : SoundCore c) (now : Moment) (change : Change) → Passed (card c) (now .0) (asked change)
+    → allHeld (afterReturn (card c) (now .0)) + card c .removed ≤ now .0
+held-there c r now change m =
+    subst (λ (k : Card). allHeld (afterReturn k (now .0)) + k .removed ≤ now .0) (sym (r .shows))
+    (held-within (r .calls) (callOf now change) (subst (λ (k : Card). Passed k (now .0) (asked change)) (r .shows) m))
+
 -- step 1, whoever holds the core: the place of a holder is below the count, and idle's is not
 module _ (c : Core) (r : SoundCore c) (now : Moment) (change : Change) (m : Passed (card c) (now .0) (asked change)) where
   few : c .n ≤ 32
@@ -375,6 +402,20 @@ module _ (c : Core) (r : SoundCore c) (now : Moment) (change : Change) (m : Pass
             (afterCharge (card c) (now .0))
         go (held w s) = record { filled = charge-filled c r now change m w s z; fits = charge-fits c r now change m w s }
         go (idles e i) = absurd (omega (arith, few))
+
+  -- the idle ticks are the rules'
+  pub idle-is : idledOf (c .idle) (c .running) (c .last) now ≡ total (idleThen (card c) (now .0))
+  idle-is =
+      ap (λ (i : Total). idledOf i (c .running) (c .last) now) (idle-kept c r)
+      ∙ ap (λ (l : Moment). idledOf (total (card c .idle)) (c .running) l now) (last-is c r) ∙ go (holds c r)
+    where
+      within : card c .idle ≤ card c .last
+      within = subst (λ (k : Card). k .idle ≤ k .last) (sym (r .shows)) (idle-within (r .calls))
+
+      go : Holds c → idledOf (total (card c .idle)) (c .running) (moment (card c .last)) now ≡ total (idleThen (card c) (now .0))
+      go (held w s) =
+          rw (lt-ltb (c .running) idle (omega (arith, s .place, s .at .inside, between c r .few)), s .seat)
+      go (idles e i) = rw (le-ltb (c .running) idle (omega arith), e) (ap total (omega (arith, within, m .not-above, m .not-before)))
 
   pub idle-stands : c .n ≤ c .running → Stands (c .places) (c .ids) (c .n) (afterCharge (card c) (now .0))
   idle-stands h = go (holds c r)

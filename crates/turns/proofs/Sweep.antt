@@ -27,11 +27,11 @@ use Rattle.rules.proofs.ThreeKinds.{terms-returned}
 use Rattle.rules.proofs.Brought.{refill-more, usable-told, told-most}
 use Rattle.turns.specs.declared.Vcpu.{Vcpu}
 use Rattle.turns.specs.declared.Told.{Told}
-use Rattle.turns.specs.declared.Total.{Total}
+use Rattle.turns.specs.declared.AllTold.{AllTold}
 use Rattle.turns.specs.Laid.{laid}
 use Rattle.turns.specs.Written.{never, nobody, tunnelOf, written, noTenant, tenants}
 use Rattle.turns.proofs.Invariant.{Fits}
-use Rattle.turns.specs.Steps.{hasQueue, headOf, bare, restsOf, broughtTo, totalOf, Returnable}
+use Rattle.turns.specs.Steps.{hasQueue, headOf, bare, restsOf, broughtTo, allTold, Returnable}
 use Rattle.turns.proofs.Laid.{laid-get, laid-set, laid-end, laid-map}
 use Rattle.turns.proofs.Written.{under, Formed, queue, refills, kind-queue, kind-left, shown-written}
 use Rattle.turns.proofs.Return.{head-written, returned-none}
@@ -70,7 +70,7 @@ abbrev pub headThen : ℕ → Tenant → Moment
 headThen now x = moment (headOf (written (returned now x)))
 
 -- at the loop's head; the first i have reported
-pub record Sweeping (now : Moment) (ids : List Tunnel) (n : ℕ) (p₀ p : List Vcpu) (next : List Moment) (total : Total) (i : ℕ)
+pub record Sweeping (now : Moment) (ids : List Tunnel) (n : ℕ) (p₀ p : List Vcpu) (next : List Moment) (total : AllTold) (i : ℕ)
     : Type 0 where
   pub filled : Filled p₀ ids n (tenants n ids p₀)
   pub fits : All Fits (tenants n ids p₀)
@@ -93,7 +93,7 @@ blank-times now (suc k) = ap (λ (r : List Moment). moment never ∷ r) (blank-t
 
 pub sweep-start : (now : Moment) (ids : List Tunnel) (n : ℕ) (p : List Vcpu) (vs : List Tenant) → now .0 ≤ largestTime → n ≤ 32
     → Filled p ids n vs
-    → All Fits vs → Sweeping now ids n p p (replicate 32 (moment never)) (totalOf 0) 0
+    → All Fits vs → Sweeping now ids n p p (replicate 32 (moment never)) (allTold 0) 0
 sweep-start now ids n p vs h l f r =
     let e : tenants n ids p ≡ vs = filled-tenants p ids n vs (omega (arith, f .count)) (all-show vs r) f in
     record {
@@ -129,6 +129,7 @@ module _ (now : Moment) (x : Tenant) (h : now .0 ≤ largestTime) (r : Fits x) w
         few = subst (λ (v : Tenant). length (v .pending) ≤ 8) (sym bared) (r .shows .0);
         fits = subst (λ (v : Tenant). v .usable + sum (λ e. e .amount) (v .pending) < 4294967296) (sym bared) (omega
             (arith, r .most, r .range .capacity-high, r .range .period-high));
+        adds = subst (λ (v : Tenant). v .pendingTotal ≡ sum (λ e. e .amount) (v .pending)) (sym bared) (r .adds);
         no-queue = λ n. subst (λ (v : Tenant). v .pending ≡ []) (sym bared) (empty (r .shows .1) n);
         fewer = λ n. rw (kind-left (x .terms) (x .runnable) (x .terms .capacity)) (refill-more x (omega (arith, r .most)) (r .polls));
         period = r .range .period-low;
@@ -196,7 +197,7 @@ pub record Visit : Type 0 where
   pub p₀ : List Vcpu
   pub p : List Vcpu
   pub next : List Moment
-  pub total : Total
+  pub total : AllTold
   pub i : ℕ
   pub inv : Sweeping now ids n p₀ p next total i
   pub below : i < n
@@ -277,7 +278,7 @@ module _ (t : Visit) where
   sweep-fits q r k = omega (arith, s .small, s .few, t .below, k .ticks, told-small now x (s .time) sound)
 
   pub sweep-on : (q : List Vcpu) (r : Told) → Reported q r
-      → Sweeping now ids n p₀ q (set (t .next) i (r .next)) (totalOf (t .total .ticks .0 + r .ticks .0)) (i + 1)
+      → Sweeping now ids n p₀ q (set (t .next) i (r .next)) (allTold (t .total .ticks .0 + r .ticks .0)) (i + 1)
   sweep-on q r k =
       record {
         filled = s .filled;
@@ -338,13 +339,13 @@ bring-length now [] = refl
 bring-length now (v ∷ vs) = ap suc (bring-length now vs)
 
 -- when it is done: what has come, the times reported and their total
-pub record Swept (now : Moment) (ids : List Tunnel) (n : ℕ) (p : List Vcpu) (next : List Moment) (total : Total) (vs : List Tenant)
+pub record Swept (now : Moment) (ids : List Tunnel) (n : ℕ) (p : List Vcpu) (next : List Moment) (total : AllTold) (vs : List Tenant)
     : Type 0 where
   pub filled : Filled p ids n (bring (now .0) vs)
   pub heard : next ≡ laid 32 (headThen (now .0)) (moment never) vs
   pub sums : total .ticks .0 ≡ totalTold (tell (now .0) vs)
 
-pub sweep-ends : (now : Moment) (ids : List Tunnel) (n : ℕ) (p₀ p : List Vcpu) (next : List Moment) (total : Total) (i : ℕ)
+pub sweep-ends : (now : Moment) (ids : List Tunnel) (n : ℕ) (p₀ p : List Vcpu) (next : List Moment) (total : AllTold) (i : ℕ)
     → Sweeping now ids n p₀ p next total i → n ≤ i → (vs : List Tenant) → Filled p₀ ids n vs → All Fits vs
     → Swept now ids n p next total vs
 sweep-ends now ids n p₀ p next total i s h vs f r =

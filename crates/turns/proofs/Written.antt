@@ -41,6 +41,8 @@ under t v =
       ended = v .ended;
       pending = v .pending;
       boundary = v .boundary;
+      pendingTotal = v .pendingTotal;
+      heldTotal = v .heldTotal;
     }
 
 -- of the kinds, with a queue and no boundary, or with a boundary and no queue
@@ -150,6 +152,8 @@ shown-written t v h =
           ended = v .ended;
           pending = q;
           boundary = o;
+          pendingTotal = v .pendingTotal;
+          heldTotal = v .heldTotal;
         } ≡ under (t .0) v
     same k q o a b c = rw (a, b, c)
 

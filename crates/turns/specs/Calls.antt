@@ -30,6 +30,8 @@ use Rattle.turns.specs.declared.Presence.{Presence}
 use Rattle.turns.specs.declared.Presence.the-variants.{OnCard, Remembered, Absent}
 use Rattle.turns.specs.declared.Boundary.{Boundary}
 use Rattle.turns.specs.declared.Boundary.the-variants.{Unset as NoBoundary, At as NextAt}
+use Rattle.turns.specs.declared.Found.{Found}
+use Rattle.turns.specs.declared.Found.the-variants.{Nobody, Tenant as There}
 use Rattle.turns.specs.declared.Vcpu.{Vcpu}
 use Rattle.turns.specs.Written.{written, noTenant, card, coreOf}
 
@@ -121,3 +123,8 @@ paperBoundary (NextAt m) = some (m .0)
 abbrev pub boundaryOf : Option Tenant → Option ℕ
 boundaryOf none = none
 boundaryOf (some v) = v .boundary
+
+-- an identifier on the card, or none
+abbrev pub paperFound : Found → Option ℕ
+paperFound Nobody = none
+paperFound (There t) = some (t .0)

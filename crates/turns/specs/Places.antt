@@ -1,5 +1,5 @@
 -- What the parts of a call that look at the table, or shift it, answer. Assumes nothing.
-use Prim.Native.Nat.{ℕ, zero, suc}
+use Prim.Native.Nat.{ℕ, zero, suc, min}
 use mathlib.Core.Bool.{cond}
 use mathlib.Core.List.{List, [], _∷_, _++_}
 use lib.Dec.{ltb, eqb}
@@ -25,6 +25,14 @@ nowhere = mostVcpus
 abbrev pub seek : ℕ → List Tunnel → ℕ
 seek t [] = 0
 seek t (x ∷ xs) = cond (eqb (x .0) t) 0 (suc (seek t xs))
+
+-- the smaller of two identifiers, of which the second counts from `low` on; and the smallest of all
+abbrev pub nearerOf : ℕ → ℕ → ℕ → ℕ
+nearerOf low best t = cond (ltb t low) best (min best t)
+
+abbrev pub leastIn : ℕ → ℕ → List Tunnel → ℕ
+leastIn low best [] = best
+leastIn low best (x ∷ xs) = leastIn low (nearerOf low best (x .0)) xs
 
 -- the place of the VCPU that a call names; a tick names nobody
 abbrev pub namedAt : List Tunnel → Change → ℕ

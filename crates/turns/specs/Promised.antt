@@ -5,6 +5,7 @@ use mathlib.Core.Path.{_≡_}
 use mathlib.Core.List.{List, [], _∷_}
 use mathlib.Core.Logic.{_↔_}
 use Rattle.units.specs.declared.Moment.{Moment}
+use Rattle.units.specs.declared.Tunnel.{Tunnel}
 use Rattle.rules.specs.Lists.{All}
 use Rattle.rules.specs.Card.{empty}
 use Rattle.rules.specs.Turn.{turn, accepted, ok}
@@ -17,7 +18,9 @@ use Rattle.rules.specs.Marks.{Marks}
 use Rattle.rules.specs.Leaving.{Leaving}
 use Rattle.rules.specs.History.{Exchange, after, heard}
 use Rattle.rules.specs.Demand3.{ItsStay, Demand3}
+use Rattle.rules.specs.Accounts.{Totals, Books, Removal, NoDecision}
 use Rattle.turns.specs.declared.Change.{Change}
+use Rattle.turns.specs.declared.Change.the-variants.{Remove}
 use Rattle.turns.specs.declared.Core.{Core}
 use Rattle.turns.specs.declared.Refusal.{Refusal}
 use Rattle.turns.specs.declared.Report.{Report}
@@ -56,6 +59,8 @@ pub record Accepted (c : Core) (now : Moment) (change : Change) (a : Answer) (r 
   pub marks : Marks (card c .vcpus) (now .0) (asked change) (card (a .core) .vcpus)
   -- who is remembered then, and with which time
   pub leaving : Leaving (card c) (callOf now change) (card (a .core) .remembered)
+  -- how the ticks of removed tenants and the idle ticks move; those of a VCPU are in Budgets
+  pub books : Books (card c) (callOf now change) (card (a .core))
 
 -- the answer `a` that the code gives to a call on the core `c`
 pub record Next (c : Core) (now : Moment) (change : Change) (a : Answer) : Type 0 where
@@ -77,5 +82,11 @@ pub record Promised (calls : List Asking) : Type 0 where
   pub demand3 : Demand3 (callsOf calls)
   -- every VCPU on the card, with its stay: the bound and the usable budget
   pub every-vcpu : All (ItsStay (exchanges calls)) (card (made calls) .vcpus)
+  -- the stored totals are the history's, and a tenant's held total at its removal is its stay's
+  pub totals : Totals (callsOf calls)
+  pub removal : (now : Moment) (tunnel : Tunnel) → NoRow (card (made calls)) (callOf now (Remove tunnel))
+      → Removal (callsOf calls) (callOf now (Remove tunnel)) (tunnel .0)
+  -- and no reply depends on one
+  pub no-decision : NoDecision (card (made calls))
   -- one call more
   pub next : (now : Moment) (change : Change) → Next (made calls) now change (turned (made calls) now change)

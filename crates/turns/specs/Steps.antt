@@ -7,16 +7,17 @@ use mathlib.Core.List.{List, [], _∷_}
 use mathlib.Core.Option.{Option}
 use lib.Dec.{ltb, eqb}
 use lib.ListN.{length, take, getD, set}
-use Rattle.units.specs.Units.{moment, amount, tunnel, later}
+use Rattle.units.specs.Units.{moment, amount, total, tunnel, later, together}
 use Rattle.units.specs.declared.Moment.{Moment}
 use Rattle.units.specs.declared.Amount.{Amount}
+use Rattle.units.specs.declared.Total.{Total}
 use Rattle.turns.specs.declared.Kind.{Kind}
 use Rattle.turns.specs.declared.Kind.the-variants.{Sporadic, Deferrable, Polling}
 use Rattle.turns.specs.declared.Vcpu.{Vcpu}
 use Rattle.turns.specs.declared.Pick.{Pick}
 use Rattle.turns.specs.declared.Told.{Told}
 use Rattle.turns.specs.declared.Brought.{Brought}
-use Rattle.turns.specs.declared.Total.{Total}
+use Rattle.turns.specs.declared.AllTold.{AllTold}
 use Rattle.rules.specs.Limits.{mostPending}
 use Rattle.rules.specs.Lists.{sum}
 use Rattle.rules.specs.Vcpu.{Vcpu as Tenant}
@@ -42,10 +43,12 @@ queueAs v ds as′ n =
     record {
       due = ds;
       ended = v .ended;
+      held = v .held;
       amount = as′;
       period = v .period;
       capacity = v .capacity;
       usable = v .usable;
+      pending = v .pending;
       priority = v .priority;
       runnable = v .runnable;
       count = n;
@@ -57,10 +60,12 @@ endedAs v m =
     record {
       due = v .due;
       ended = m;
+      held = v .held;
       amount = v .amount;
       period = v .period;
       capacity = v .capacity;
       usable = v .usable;
+      pending = v .pending;
       priority = v .priority;
       runnable = v .runnable;
       count = v .count;
@@ -72,15 +77,41 @@ usableAs v ds b u =
     record {
       due = ds;
       ended = v .ended;
+      held = v .held;
       amount = v .amount;
       period = v .period;
       capacity = v .capacity;
       usable = u;
+      pending = v .pending;
       priority = v .priority;
       runnable = b;
       count = v .count;
       kind = v .kind;
     }
+
+-- .., or the totals: both, the pending one or the held one
+abbrev pub totalsAs : Vcpu → Amount → Total → Vcpu
+totalsAs v a t =
+    record {
+      due = v .due;
+      ended = v .ended;
+      held = t;
+      amount = v .amount;
+      period = v .period;
+      capacity = v .capacity;
+      usable = v .usable;
+      pending = a;
+      priority = v .priority;
+      runnable = v .runnable;
+      count = v .count;
+      kind = v .kind;
+    }
+
+abbrev pub owingAs : Vcpu → Amount → Vcpu
+owingAs v a = totalsAs v a (v .held)
+
+abbrev pub longAs : Vcpu → Total → Vcpu
+longAs v t = totalsAs v (v .pending) t
 
 abbrev pub runnableAs : Vcpu → Bool → Vcpu
 runnableAs v b = usableAs v (v .due) b (leftOf (v .kind) b (v .usable))
@@ -111,18 +142,28 @@ postedOf v used last =
 abbrev pub elapsedOf : Moment → Moment → Amount
 elapsedOf last now = amount (now .0 - last .0)
 
--- of one that has a queue: the ticks are posted, and its use ends
+-- of one that has a queue: the ticks are posted, its use ends, and its pending total grows
 unfoldable pub spentOf : Vcpu → Amount → Moment → Moment → Vcpu
-spentOf v used last now = cond (hasQueue (v .kind)) (endedAs (postedOf v used last) now) v
+spentOf v used last now =
+    cond (hasQueue (v .kind)) (owingAs (endedAs (postedOf v used last) now) (amount (v .pending .0 + used .0))) v
 
 -- with other usable ticks
 abbrev pub tookOf : Vcpu → Amount → Vcpu
 tookOf v u = usableAs v (v .due) (v .runnable) u
 
+-- a held total with the ticks of an amount
+abbrev pub longerBy : Total → Amount → Total
+longerBy t a = together t (total (a .0))
+
+-- the idle ticks, with those from `last` to `now` where the place is that of nobody
+abbrev pub idledOf : Total → ℕ → Moment → Moment → Total
+idledOf t running last now = cond (ltb running idle) t (together t (total (now .0 - last .0)))
+
 unfoldable pub chargedOf : Vcpu → Moment → Moment → Vcpu
 chargedOf v last now =
     cond (eqb (last .0) (now .0)) v
-    (tookOf (spentOf v (elapsedOf last now) last now) (amount (v .usable .0 - (now .0 - last .0))))
+    (longAs (tookOf (spentOf v (elapsedOf last now) last now) (amount (v .usable .0 - (now .0 - last .0))))
+    (longerBy (v .held) (elapsedOf last now)))
 
 -- what a charge asks: the slots in use fit, and the ticks held are usable ones
 pub record Chargeable (v : Vcpu) (last now : Moment) : Type 0 where
@@ -130,6 +171,7 @@ pub record Chargeable (v : Vcpu) (last now : Moment) : Type 0 where
   pub onward : last .0 ≤ now .0
   pub enough : now .0 - last .0 ≤ v .usable .0
   pub fits : (k : ℕ) → ticksAt v k + v .usable .0 < 4294967296
+  pub owed : v .pending .0 + v .usable .0 < 4294967296
 
 -- an array of eight with eight times `z` behind it, and eight slots of that from the slot `k` on (`o` is what a read past the end would
 -- give)
@@ -151,6 +193,10 @@ unfoldable pub returnedFirst : ℕ → Vcpu → Vcpu
 returnedFirst k v =
     tookOf (queueAs v (fromOf (moment 0) (moment never) k (v .due)) (fromOf (amount 0) (amount 0) k (v .amount)) (v .count - k))
     (amount (v .usable .0 + ticksIn k (v .amount)))
+
+-- `w`, which is `v` with its due entries brought in, with the pending total that this leaves
+abbrev pub loweredOf : Vcpu → Vcpu → Vcpu
+loweredOf v w = owingAs w (amount (v .pending .0 - (w .usable .0 - v .usable .0)))
 
 -- the next time that something comes
 abbrev pub headOf : Vcpu → ℕ
@@ -212,8 +258,8 @@ broughtTo now v =
     }
 
 -- what the reports come to
-abbrev pub totalOf : ℕ → Total
-totalOf n = record { ticks = amount n }
+abbrev pub allTold : ℕ → AllTold
+allTold n = record { ticks = amount n }
 
 -- what the return step asks: a written record whose ticks fit, with a queue or with a period and no more ticks than a refill leaves, and
 -- a moment that a period does not carry to the one above all
@@ -221,6 +267,7 @@ pub record Returnable (v : Vcpu) (now : Moment) : Type 0 where
   pub written : v ≡ written (bare v)
   pub few : length (bare v .pending) ≤ mostPending
   pub fits : bare v .usable + sum (λ e. e .amount) (bare v .pending) < 4294967296
+  pub adds : bare v .pendingTotal ≡ sum (λ e. e .amount) (bare v .pending)
   pub no-queue : hasQueue (v .kind) ≡ false → bare v .pending ≡ []
   pub fewer : hasQueue (v .kind) ≡ false → v .usable .0 ≤ leftOf (v .kind) (v .runnable) (v .capacity) .0
   pub period : 1 ≤ v .period .0

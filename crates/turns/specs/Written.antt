@@ -6,7 +6,7 @@ use mathlib.Core.List.{List, [], _∷_}
 use mathlib.Core.Option.{Option, none, some}
 use lib.Dec.{ltb, eqb}
 use lib.ListN.{length, getD}
-use Rattle.units.specs.Units.{moment, amount, tunnel, lastMoment}
+use Rattle.units.specs.Units.{moment, amount, total, tunnel, lastMoment}
 use Rattle.units.specs.declared.Moment.{Moment}
 use Rattle.units.specs.declared.Amount.{Amount}
 use Rattle.units.specs.declared.Tunnel.{Tunnel}
@@ -62,10 +62,12 @@ written v =
     record {
       due = laid mostPending moment (moment never) (comes v);
       ended = moment (v .ended);
+      held = total (v .heldTotal);
       amount = laid mostPending amountOf (amount 0) (v .pending);
       period = amount (v .terms .period);
       capacity = amount (v .terms .capacity);
       usable = amount (v .usable);
+      pending = amount (v .pendingTotal);
       priority = v .terms .priority;
       runnable = v .runnable;
       count = length (v .pending);
@@ -82,6 +84,8 @@ noTenant =
       ended = 0;
       pending = [];
       boundary = none;
+      pendingTotal = 0;
+      heldTotal = 0;
     }
 
 -- the first `n` slots, in order
@@ -107,6 +111,8 @@ shown t v =
       ended = v .ended .0;
       pending = entries (v .count) (v .due) (v .amount);
       boundary = boundaryAt (v .kind) (getD (v .due) 0 (moment 0));
+      pendingTotal = v .pending .0;
+      heldTotal = v .held .0;
     }
 
 -- the first `n` places, in order
@@ -142,6 +148,8 @@ card c =
       timer = timerAt (c .timer .0);
       vcpus = tenants (c .n) (c .ids) (c .places);
       remembered = memories (c .memory);
+      removed = c .removed .0;
+      idle = c .idle .0;
     }
 
 -- the place of the one so named, or behind all where there is none
@@ -181,6 +189,8 @@ coreOf k =
       ids = laid mostVcpus tunnelOf (tunnel nobody) (k .vcpus);
       timer = moment (timerOf (k .timer));
       memory = memoryOf (k .remembered);
+      removed = total (k .removed);
+      idle = total (k .idle);
       running = placeOf (k .running) (k .vcpus);
       n = length (k .vcpus);
     }

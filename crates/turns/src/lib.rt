@@ -7,18 +7,19 @@ mod table;
 use units::Amount;
 use units::LAST_MOMENT;
 use units::Moment;
+use units::Total;
 use units::Tunnel;
 ghost use mathlib.Core.Path.{_≡_};
 ghost use lib.ListN.{length};
 ghost use Rattle.rules.specs.Card.{empty as emptyCard};
 ghost use Rattle.rules.specs.Card.{find as findRule};
-ghost use Rattle.rules.specs.Card.{onCard};
+ghost use Rattle.rules.specs.Card.{onCard, firstFrom};
 ghost use Rattle.rules.specs.Remember.{timeOf};
 ghost use Rattle.rules.specs.Turn.{turn as turnRule};
 ghost use Rattle.turns.specs.Written.{card, coreOf};
 ghost use Rattle.turns.specs.State.{ValidCore};
 ghost use Rattle.turns.specs.Calls.{callOf, paperReply, paperHolder, paperTimer, looked, boundaryOf};
-ghost use Rattle.turns.specs.Calls.{paperPresence, paperRemembered, paperBoundary};
+ghost use Rattle.turns.specs.Calls.{paperPresence, paperRemembered, paperBoundary, paperFound};
 
 // The limits of the card.
 pub const LARGEST_TUNNEL: u32 = 16777215;
@@ -107,14 +108,16 @@ pub enum Kind {
 
 // A VCPU on the card: the first `count` slots hold the pending returns in order, the others a time above all and no ticks. The first
 // slot of a deferrable or polling VCPU, which has no queue, holds its next boundary: `due[0]` is the next time that something comes.
-// The order of the fields leaves no gap: 120 bytes.
+// `pending` is the sum of the amounts, `held` the ticks held since its admission; no reply depends on them. 136 bytes, 4 of them a gap.
 pub struct Vcpu {
     pub due: [Moment; 8],
     pub ended: Moment,
+    pub held: Total,
     pub amount: [Amount; 8],
     pub period: Amount,
     pub capacity: Amount,
     pub usable: Amount,
+    pub pending: Amount,
     pub priority: u8,
     pub runnable: bool,
     pub count: u8,
@@ -134,6 +137,12 @@ pub enum Boundary {
     At(Moment),
 }
 
+// An identifier on the card, or none.
+pub enum Found {
+    Nobody,
+    Tenant(Tunnel),
+}
+
 // Everything of one VCPU, and its next boundary; where there is none, the record of a vacant place.
 pub struct Look {
     pub presence: Presence,
@@ -141,13 +150,16 @@ pub struct Look {
     pub boundary: Boundary,
 }
 
-// The card: the time of the last accepted call, who runs, the timer, how many VCPUs are on it, and how many identifiers it remembers.
+// The card: the time of the last accepted call, who runs, the timer, how many VCPUs are on it, how many identifiers it remembers, the ticks
+// that all removed tenants held, and those that nobody held.
 pub struct Status {
     pub time: Moment,
     pub run: Holder,
     pub timer: Timer,
     pub vcpus: usize,
     pub remembered: usize,
+    pub removed: Total,
+    pub idle: Total,
 }
 
 // The identifiers remembered: the first `count` slots hold them in the order of their removals, each with its time; the others hold the
@@ -165,6 +177,8 @@ pub struct Core {
     ids: [Tunnel; MOST_VCPUS],
     timer: Moment,
     memory: Memory,
+    removed: Total,
+    idle: Total,
     running: usize,
     n: usize,
 }
@@ -176,7 +190,7 @@ struct Told {
 }
 
 // What the reports come to together. A struct of its own, so that a number more to report changes `steps` and not the loop in `turn`.
-struct Total {
+struct AllTold {
     ticks: Amount,
 }
 
@@ -211,6 +225,8 @@ impl Core {
             ids: [id; MOST_VCPUS],
             timer: Moment::new(NEVER),
             memory: remember::blank(),
+            removed: Total::new(0),
+            idle: Total::new(0),
             running: IDLE,
             n: 0,
         }
@@ -245,6 +261,8 @@ impl Core {
         }
         let mut p = self.places;
         let running = self.running;
+        let mut removed = self.removed;
+        let idle = steps::idled(self.idle, running, last, now);
         // 1. Charge; in idle nobody is charged.
         if running < n {
             let v = p[running];
@@ -294,6 +312,7 @@ impl Core {
             Change::Remove(id) => {
                 let v = p[at];
                 let left = remember::leaving(memory, id, v);
+                let over = removed.plus(v.held);
                 let closed = table::without_vcpu(p, at, steps::vacant());
                 let shorter = table::without_id(ids, at, Tunnel::new(NOBODY));
                 let fewer = table::without_time(next, at, never);
@@ -301,6 +320,7 @@ impl Core {
                 ids = shorter;
                 next = fewer;
                 memory = left;
+                removed = over;
                 n -= 1;
             }
             Change::Tick => {}
@@ -340,6 +360,8 @@ impl Core {
                 ids,
                 timer,
                 memory,
+                removed,
+                idle,
                 running: chosen,
                 n,
             },
@@ -423,11 +445,26 @@ impl Core {
         }
     }
 
+    // The smallest identifier on the card that is `low` or above: so a host goes through all of them, in rising order.
+    pub fn first_from(self, low: Tunnel) -> Found
+        requires { ⌜ ValidCore self ⌝ }
+        ensures { λ r. ⌜ paperFound r ≡ firstFrom (low .0) (card self .vcpus) ⌝ }
+    {
+        let ids = self.ids;
+        let least = table::least(ids, low);
+        let none = least.number() == NOBODY;
+        if none {
+            return Found::Nobody;
+        }
+        Found::Tenant(least)
+    }
+
     pub fn status(self) -> Status
         requires { ⌜ ValidCore self ⌝ }
         ensures { λ r. ⌜ (r .time .0 ≡ card self .last) × (paperHolder (r .run) ≡ card self .running) ⌝ }
         ensures { λ r. ⌜ (paperTimer (r .timer) ≡ card self .timer) × (r .vcpus ≡ length (card self .vcpus)) ⌝ }
         ensures { λ r. ⌜ r .remembered ≡ length (card self .remembered) ⌝ }
+        ensures { λ r. ⌜ (r .removed .0 ≡ card self .removed) × (r .idle .0 ≡ card self .idle) ⌝ }
     {
         let ids = self.ids;
         let time = self.last;
@@ -435,12 +472,16 @@ impl Core {
         let run = table::holder(ids, self.running);
         let said = steps::timer_said(timer);
         let memory = self.memory;
+        let removed = self.removed;
+        let idle = self.idle;
         Status {
             time,
             run,
             timer: said,
             vcpus: self.n,
             remembered: memory.count,
+            removed,
+            idle,
         }
     }
 }

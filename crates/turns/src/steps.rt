@@ -1,4 +1,5 @@
 // The steps on one VCPU: charge, return, change, and what choosing and the timer ask of it.
+use crate::AllTold;
 use crate::Boundary;
 use crate::Brought;
 use crate::Description;
@@ -9,10 +10,10 @@ use crate::NEVER;
 use crate::Pick;
 use crate::Timer;
 use crate::Told;
-use crate::Total;
 use crate::Vcpu;
 use units::Amount;
 use units::Moment;
+use units::Total;
 ghost use mathlib.Core.Path.{_≡_};
 ghost use mathlib.Core.Bool.{true, not};
 ghost use Prim.Native.Nat.{ℕ, _+_, _-_, _≤_, _<_, min};
@@ -27,7 +28,7 @@ ghost use Rattle.turns.specs.Steps.{hasQueue, leftOf};
 ghost use Rattle.turns.specs.Steps.{elapsedOf, ticksAt, joinedOf, foldedOf, appendedOf, joinsOf, postedOf, spentOf, chargedOf};
 ghost use Rattle.turns.specs.Steps.{Chargeable, fromOf, ticksIn, returnedFirst, headOf, latestOf, untilNext, refilledOf};
 ghost use Rattle.turns.specs.Steps.{boundaryIn, runnableAs, readyOf, waitsOf, pickedOf, timerFor, bare, Returnable};
-ghost use Rattle.turns.specs.Steps.{restsOf, broughtTo, totalOf};
+ghost use Rattle.turns.specs.Steps.{restsOf, broughtTo, allTold, longerBy, idledOf, owingAs, loweredOf};
 
 // The kind of a VCPU on the card, from the byte asked for. An unknown one is refused before.
 fn kind_of(kind: u8) -> Kind
@@ -69,7 +70,7 @@ fn left(kind: Kind, runnable: bool, ticks: Amount) -> Amount
     }
 }
 
-// The ticks from `last` to `now`. Here and in `until_next` alone two moments become an amount.
+// The ticks from `last` to `now`. Here and in `until_next` alone two moments become an amount, and in `idled` a total.
 fn elapsed(last: Moment, now: Moment) -> Amount
     requires { ⌜ last .0 ≤ now .0 ⌝ }
     requires { ⌜ now .0 - last .0 < 4294967296 ⌝ }
@@ -90,6 +91,24 @@ fn less(a: Amount, b: Amount) -> Amount
     ensures { λ r. ⌜ r ≡ amount (a .0 - b .0) ⌝ }
 {
     Amount::new(a.ticks() - b.ticks())
+}
+
+// With the ticks of an amount.
+fn longer(held: Total, used: Amount) -> Total
+    ensures { λ r. ⌜ r ≡ longerBy held used ⌝ }
+{
+    held.plus(Total::new(used.ticks() as u64))
+}
+
+// The idle ticks, with those from `last` to `now` where nobody held the core.
+pub(crate) fn idled(idle: Total, running: usize, last: Moment, now: Moment) -> Total
+    requires { ⌜ last .0 ≤ now .0 ⌝ }
+    ensures { λ r. ⌜ r ≡ idledOf idle running last now ⌝ }
+{
+    if running < IDLE {
+        return idle;
+    }
+    idle.plus(Total::new(now.ticks() - last.ticks()))
 }
 
 // The amount joins the last entry.
@@ -159,7 +178,7 @@ fn posted(v: Vcpu, used: Amount, last: Moment) -> Vcpu
 // Of a sporadic VCPU the ticks used become a pending return, and its use ends at `now`.
 fn spent(v: Vcpu, used: Amount, last: Moment, now: Moment) -> Vcpu
     requires { ⌜ v .count ≤ mostPending ⌝ }
-    requires { ⌜ ((k : ℕ) → ticksAt v k + used .0 < 4294967296) ⌝ }
+    requires { ⌜ ((k : ℕ) → ticksAt v k + used .0 < 4294967296) × (v .pending .0 + used .0 < 4294967296) ⌝ }
     ensures { λ r. ⌜ r ≡ spentOf v used last now ⌝ }
 {
     let kind = v.kind;
@@ -167,8 +186,10 @@ fn spent(v: Vcpu, used: Amount, last: Moment, now: Moment) -> Vcpu
     if !queue {
         return v;
     }
+    let pending = more(v.pending, used);
     let mut w = posted(v, used, last);
     w.ended = now;
+    w.pending = pending;
     w
 }
 
@@ -183,7 +204,9 @@ pub(crate) fn charged(v: Vcpu, last: Moment, now: Moment) -> Vcpu
     let used = elapsed(last, now);
     let mut w = spent(v, used, last, now);
     let usable = less(v.usable, used);
+    let held = longer(v.held, used);
     w.usable = usable;
+    w.held = held;
     w
 }
 
@@ -307,12 +330,13 @@ pub(crate) fn due_by(v: Vcpu, now: Moment) -> bool
 }
 
 // The entries that are due leave the front of the queue, all at once: the first is due, and the first behind it that is not tells how many
-// are. A test for each number and no loop, so that the shift is by a number that the compiler knows (docs/DECISIONS.md, "One sweep").
+// are. A test for each number and no loop, so that the shift is by a number that the compiler knows (docs/DECISIONS.md, "One sweep"). The
+// pending total is left as it was: `lowered` has it.
 fn brought_in(v: Vcpu, now: Moment) -> Vcpu
     requires { ⌜ Returnable v now ⌝ }
     requires { ⌜ hasQueue (v .kind) ≡ true ⌝ }
     requires { ⌜ headOf v ≤ now .0 ⌝ }
-    ensures { λ r. ⌜ r ≡ written (returnedRule (now .0) (bare v)) ⌝ }
+    ensures { λ r. ⌜ r ≡ owingAs (written (returnedRule (now .0) (bare v))) (v .pending) ⌝ }
 {
     let d = v.due;
     if now.before(d[1]) {
@@ -377,6 +401,19 @@ pub(crate) fn at_rest(v: Vcpu) -> Told
     }
 }
 
+// `w` is `v` with its due entries brought in: its pending total is lowered by them, which is by what is usable more. Here and not where
+// they are taken, since there it was slower (docs/DECISIONS.md, "Totals").
+fn lowered(v: Vcpu, w: Vcpu) -> Vcpu
+    requires { ⌜ (v .usable .0 ≤ w .usable .0) × (w .usable .0 - v .usable .0 ≤ v .pending .0) ⌝ }
+    ensures { λ r. ⌜ r ≡ loweredOf v w ⌝ }
+{
+    let ticks = less(w.usable, v.usable);
+    let pending = less(v.pending, ticks);
+    let mut x = w;
+    x.pending = pending;
+    x
+}
+
 // Where something is due: the returns, or a refill.
 fn came(v: Vcpu, now: Moment) -> Vcpu
     requires { ⌜ Returnable v now ⌝ }
@@ -385,7 +422,7 @@ fn came(v: Vcpu, now: Moment) -> Vcpu
 {
     let kind = v.kind;
     if has_queue(kind) {
-        return brought_in(v, now);
+        return lowered(v, brought_in(v, now));
     }
     refilled(v, now)
 }
@@ -407,19 +444,19 @@ pub(crate) fn returned(v: Vcpu, now: Moment) -> Brought
 }
 
 // Before the first report, and with one more.
-pub(crate) fn nothing() -> Total
-    ensures { λ r. ⌜ r ≡ totalOf 0 ⌝ }
+pub(crate) fn nothing() -> AllTold
+    ensures { λ r. ⌜ r ≡ allTold 0 ⌝ }
 {
-    Total {
+    AllTold {
         ticks: Amount::new(0),
     }
 }
 
-pub(crate) fn together(total: Total, told: Told) -> Total
+pub(crate) fn together(total: AllTold, told: Told) -> AllTold
     requires { ⌜ total .ticks .0 + told .ticks .0 < 4294967296 ⌝ }
-    ensures { λ r. ⌜ r ≡ totalOf (total .ticks .0 + told .ticks .0) ⌝ }
+    ensures { λ r. ⌜ r ≡ allTold (total .ticks .0 + told .ticks .0) ⌝ }
 {
-    Total {
+    AllTold {
         ticks: more(total.ticks, told.ticks),
     }
 }
@@ -455,10 +492,12 @@ pub(crate) fn vacant() -> Vcpu
     Vcpu {
         due: [never; 8],
         ended: Moment::new(0),
+        held: Total::new(0),
         amount: [none; 8],
         period: none,
         capacity: none,
         usable: none,
+        pending: none,
         priority: 0,
         runnable: false,
         count: 0,
@@ -490,14 +529,18 @@ pub(crate) fn admitted(d: Description, now: Moment) -> Vcpu
     let mut due = blank.due;
     due[0] = first;
     let ended = blank.ended;
+    let held = blank.held;
+    let pending = blank.pending;
     let amount = blank.amount;
     Vcpu {
         due,
         ended,
+        held,
         amount,
         period,
         capacity,
         usable,
+        pending,
         priority: d.priority,
         runnable: false,
         count: 0,

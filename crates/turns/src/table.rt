@@ -5,6 +5,7 @@ use crate::Holder;
 use crate::IDLE;
 use crate::LAST_PLACE;
 use crate::MOST_VCPUS;
+use crate::NOBODY;
 use crate::NOWHERE;
 use crate::Vcpu;
 use units::Moment;
@@ -14,7 +15,9 @@ ghost use Prim.Native.Nat.{_≤_, _<_};
 ghost use Rattle.rules.specs.Limits.{mostVcpus};
 ghost use Rattle.rules.specs.Vcpu.{moreUrgent};
 ghost use Rattle.turns.specs.Calls.{described};
-ghost use Rattle.turns.specs.Places.{seek, namedAt, holderOf, urgency, spotIn, inserted, removed};
+ghost use Rattle.units.specs.Units.{tunnel};
+ghost use Rattle.turns.specs.Written.{nobody};
+ghost use Rattle.turns.specs.Places.{seek, nearerOf, leastIn, namedAt, holderOf, urgency, spotIn, inserted, removed};
 
 // The place of an identifier.
 pub(crate) fn find(ids: [Tunnel; MOST_VCPUS], id: Tunnel) -> usize
@@ -30,6 +33,35 @@ pub(crate) fn find(ids: [Tunnel; MOST_VCPUS], id: Tunnel) -> usize
         k += 1;
     }
     NOWHERE
+}
+
+// The smaller of two identifiers, of which the second counts from `low` on.
+fn nearer(best: Tunnel, id: Tunnel, low: Tunnel) -> Tunnel
+    ensures { λ r. ⌜ r ≡ tunnel (nearerOf (low .0) (best .0) (id .0)) ⌝ }
+{
+    let short = id.below(low);
+    if short {
+        return best;
+    }
+    let less = id.below(best);
+    if less {
+        return id;
+    }
+    best
+}
+
+// The smallest identifier from `low` on, or that of nobody.
+pub(crate) fn least(ids: [Tunnel; MOST_VCPUS], low: Tunnel) -> Tunnel
+    ensures { λ r. ⌜ r ≡ tunnel (leastIn (low .0) nobody ids) ⌝ }
+{
+    let mut best = Tunnel::new(NOBODY);
+    let mut k = 0;
+    while k < MOST_VCPUS {
+        let id = ids[k];
+        best = nearer(best, id, low);
+        k += 1;
+    }
+    best
 }
 
 // The place of the VCPU that a call names; a tick names nobody. An identifier above 24 bits may give a vacant place: row 4 comes first.

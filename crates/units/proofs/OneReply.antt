@@ -16,6 +16,12 @@ use Rattle.units.proofs.Amount.new.Kinds as amount-new
 use Rattle.units.proofs.Amount.new.Reads as amount-new-promise
 use Rattle.units.proofs.Amount.ticks.Kinds as amount-ticks
 use Rattle.units.proofs.Amount.ticks.Reads as amount-ticks-promise
+use Rattle.units.proofs.Total.new.Kinds as total-new
+use Rattle.units.proofs.Total.new.Reads as total-new-promise
+use Rattle.units.proofs.Total.ticks.Kinds as total-ticks
+use Rattle.units.proofs.Total.ticks.Reads as total-ticks-promise
+use Rattle.units.proofs.Total.plus.Kinds as total-plus
+use Rattle.units.proofs.Total.plus.Reads as total-plus-promise
 use Rattle.units.proofs.Tunnel.new.Kinds as tunnel-new
 use Rattle.units.proofs.Tunnel.new.Reads as tunnel-new-promise
 use Rattle.units.proofs.Tunnel.number.Kinds as tunnel-number
@@ -45,6 +51,15 @@ amount-new-one κs args a b x y p q = p ∙ sym q
 
 pub amount-ticks-one : OneReply 0 amount-ticks.ps amount-ticks.r amount-ticks-promise.Post
 amount-ticks-one κs args a b x y p q = p ∙ sym q
+
+pub total-new-one : OneReply 0 total-new.ps total-new.r total-new-promise.Post
+total-new-one κs args a b x y p q = p ∙ sym q
+
+pub total-ticks-one : OneReply 0 total-ticks.ps total-ticks.r total-ticks-promise.Post
+total-ticks-one κs args a b x y p q = p ∙ sym q
+
+pub total-plus-one : OneReply 0 total-plus.ps total-plus.r total-plus-promise.Post
+total-plus-one κs args a b x y p q = p ∙ sym q
 
 pub tunnel-new-one : OneReply 0 tunnel-new.ps tunnel-new.r tunnel-new-promise.Post
 tunnel-new-one κs args a b x y p q = p ∙ sym q

@@ -73,7 +73,9 @@ sub-from : tie.Need-sub-from
 sub-from c = search needs
 
 move-rest-requires : tie.Need-move-rest-requires
-move-rest-requires c κs = search needs
+move-rest-requires c κs =
+    let k = counted (c .before .before .before .before) in
+    omega (arith, k .count .ensures, start (told k .before) .pre .1)
 
 same-length : tie.Need-same-length
 same-length c = search needs

@@ -22,10 +22,10 @@ timer-said-requires c κs = search needs
 
 -- the end of the call
 abbrev E : Type 0
-E = tie.After-memory
+E = tie.After-idle
 
 abbrev said : E → tie.After-timer-said
-said c = c .before
+said c = c .before .before .before
 
 abbrev start : E → tie.Start
 start c = said c .before .before .before .before .before
@@ -42,7 +42,7 @@ returns c = (
   (refl, ap paperHolder (said c .before .holder .ensures) ∙ holder-paper (core c) (valid c)),
   (
     (ap paperTimer (said c .timer-said .ensures) ∙ paper-timer (timerAt (core c .timer .0)), n-is (core c) (valid c)),
-    ap (λ (m : Memory). m .count) (memory-is (core c) (valid c)),
+    (ap (λ (m : Memory). m .count) (memory-is (core c) (valid c)), (refl, refl)),
   ),
 )
 

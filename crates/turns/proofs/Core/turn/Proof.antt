@@ -9,7 +9,7 @@ use native.Mathlib.Omega.{arith}
 use lib.ListN.{length, set, take, drop}
 use borrow.Author.Needs.{needs}
 use borrow.Author.Tests.{ltb-false, not-true}
-use Rattle.units.specs.Units.{moment, amount}
+use Rattle.units.specs.Units.{moment, amount, total}
 use Rattle.units.specs.declared.Amount.{Amount}
 use Rattle.units.specs.declared.Moment.{Moment}
 use Rattle.units.specs.declared.Tunnel.{Tunnel}
@@ -23,9 +23,10 @@ use Rattle.rules.specs.Change.{leaving}
 use Rattle.rules.specs.Change.{change as changeRule}
 use Rattle.rules.specs.Choose.{choose}
 use Rattle.rules.specs.Refuse.{refusal}
-use Rattle.rules.specs.Told.{total}
+use Rattle.rules.specs.Ledger.{handedOver}
+use Rattle.rules.specs.Told.{total as totalTold}
 use Rattle.rules.specs.Told.{Told as ToldRule}
-use Rattle.rules.specs.Turn.{afterCharge, afterReturn, toldBy}
+use Rattle.rules.specs.Turn.{afterCharge, afterReturn, toldBy, idleThen}
 use Rattle.rules.proofs.Accepted.{Passed, passed}
 use Rattle.rules.proofs.Brought.{once-charged}
 use Rattle.rules.proofs.Lists.{all-imp}
@@ -54,7 +55,8 @@ use Rattle.turns.proofs.Rows.{idsOf}
 use Rattle.turns.proofs.Settle.{answer-found, pick-found, scan-end, scan-step, turned-accepted, turned-refused}
 use Rattle.turns.proofs.Remembered.{memory-fixed}
 use Rattle.turns.proofs.Shape.{Changeable, FilledBy, Removable, Stepped, Table, change-filled, changeable, changedTable}
-use Rattle.turns.proofs.Stage.{Stands, accepted-call, charge-asks, charge-stands, idle-stands, n-is, named-card, refused-call}
+use Rattle.turns.proofs.Stage.{Stands, accepted-call, charge-asks, charge-stands, held-there, idle-is, idle-stands, last-is, n-is}
+use Rattle.turns.proofs.Stage.{named-card, refused-call, removed-is}
 use Rattle.turns.proofs.Stage.{kept-few, kept-none, kept-written, memory-written, returned-sound}
 use Rattle.turns.proofs.Sweep.{Reported, Sweeping, Swept, Visit, sweep-asks, sweep-due, sweep-ends, sweep-fits, sweep-on, sweep-rests}
 use Rattle.turns.proofs.Sweep.{sweep-start}
@@ -62,18 +64,18 @@ use Rattle.turns.proofs.Core.turn.Statement.{statement}
 use Rattle.turns.proofs.Core.turn.Tie as tie
 
 abbrev Inv-loop : tie.InvT-loop
-Inv-loop now change ids n at memory p₀ running top next₀ total₀ i₀ p next total i = Sweeping now ids n p₀ p next total i
+Inv-loop now change ids n at memory p₀ running gone idle top next₀ total₀ i₀ p next total i = Sweeping now ids n p₀ p next total i
 
 abbrev μ-loop : tie.MeasureT-loop
-μ-loop now change ids n at memory p₀ running top next₀ total₀ i₀ p next total i = n - i
+μ-loop now change ids n at memory p₀ running gone idle top next₀ total₀ i₀ p next total i = n - i
 
 abbrev Inv-loop2 : tie.InvT-loop2
-Inv-loop2 now ids n at memory p running next total i pick₀ j₀ pick j =
+Inv-loop2 now ids n at memory p running gone idle next total i pick₀ j₀ pick j =
     (j ≤ n) × (n ≤ 32) × (length p ≡ 32) × (length next ≡ 32)
     × (picks pick j (drop j (take n p)) (drop j (take n next)) ≡ picks pick₀ 0 (take n p) (take n next))
 
 abbrev μ-loop2 : tie.MeasureT-loop2
-μ-loop2 now ids n at memory p running next total i pick₀ j₀ pick j = n - j
+μ-loop2 now ids n at memory p running gone idle next total i pick₀ j₀ pick j = n - j
 
 -- The places of the code, in its order, and from each the way to the one before it. A local more between two of them changes the way
 -- between them and no other line.
@@ -126,8 +128,15 @@ told c = c .before
 abbrev judged : Accepted → Judged
 judged c = told c .before .before
 
+-- the idle ticks are counted
+abbrev Idled : Type 0
+Idled = tie.After-idled Inv-loop μ-loop Inv-loop2 μ-loop2
+
+abbrev before-idle : Idled → Accepted
+before-idle c = c .before .before
+
 abbrev accepted : Charged → Accepted
-accepted c = c .before
+accepted c = before-idle (c .before)
 
 -- the first loop begins
 abbrev begun : tie.At-loop Inv-loop μ-loop Inv-loop2 μ-loop2 → Charged
@@ -218,6 +227,10 @@ module _ (c : Recalled) where
   abbrev rs₃ : List Remembered
   rs₃ = rs ++ leaving (asked change) vs₂
 
+  -- and the ticks of removed tenants
+  abbrev gone₃ : ℕ
+  gone₃ = card core .removed + handedOver (asked change) vs₂
+
 -- what an accepted call was given
 abbrev given : Accepted → Recalled
 given c = recalled (judged c)
@@ -226,7 +239,8 @@ given c = recalled (judged c)
 module _ (c : Accepted) where
   accept : refusal (card (core (given c))) (now (given c) .0) (asked (change (given c))) ≡ none
   accept =
-      accepted-call (core (given c)) (now (given c)) (change (given c)) (valid (given c)) (at (given c)) (sought (given c) .named .ensures) (memory (given c)) (remembered (given c))
+      accepted-call (core (given c)) (now (given c)) (change (given c)) (valid (given c)) (at (given c)) (sought (given c) .named .ensures)
+      (memory (given c)) (remembered (given c))
       (judged c .judged .result) (judged c .judged .ensures) (told c .enum-told .given .1)
 
   meets : Passed (card (core (given c))) (now (given c) .0) (asked (change (given c)))
@@ -242,7 +256,14 @@ module _ (c : Accepted) where
         few = kept-few (core (given c)) (valid (given c)) (now (given c) .0);
         time = meets .not-above;
         sound = returned-sound (core (given c)) (valid (given c)) (now (given c)) (change (given c)) meets;
+        within = held-there (core (given c)) (valid (given c)) (now (given c)) (change (given c)) meets;
       }
+
+-- the idle ticks
+idle-there : (c : Charged) → let j = given (accepted c) in c .before .idled .result ≡ total (idleThen (card (core j)) (now j .0))
+idle-there c =
+    let j : Recalled = given (accepted c) in
+    c .before .idled .ensures ∙ idle-is (core j) (valid j) (now j) (change j) (meets (accepted c))
 
 -- step 1
 after-charge : (c : Charged) → let j = given (accepted c) in Stands (c .if2 .p) (core j .ids) (core j .n) (vs₁ j)
@@ -263,7 +284,14 @@ module _ (c : Returned) where
 
   abbrev table : Table
   table =
-      record { places = c .before .loop .p; ids = core j₂ .ids; n = core j₂ .n; memory = memory j₂; next = c .before .loop .next }
+      record {
+        places = c .before .loop .p;
+        ids = core j₂ .ids;
+        n = core j₂ .n;
+        memory = memory j₂;
+        removed = core j₂ .removed;
+        next = c .before .loop .next;
+      }
 
   swept : Swept (now j₂) (core j₂ .ids) (core j₂ .n) (c .before .loop .p) (c .before .loop .next) (c .before .loop .total) (vs₁ j₂)
   swept =
@@ -271,11 +299,12 @@ module _ (c : Returned) where
       (c .before .loop .total) (c .before .loop .i) (c .before .loop .inv) (c .loop-test .left) (vs₁ j₂) (after-charge (charged c) .filled)
       (after-charge (charged c) .fits)
 
-  after-return : FilledBy table (vs₂ j₂) (rs j₂) (ts j₂)
+  after-return : FilledBy table (vs₂ j₂) (rs j₂) (ts j₂) (card (core j₂) .removed)
   after-return =
       record {
         table = swept .filled;
         memory = remembered j₂;
+        removed = removed-is (core j₂) (valid j₂);
         next =
             swept .heard
             ∙ heard-returned (now j₂ .0) (vs₁ j₂) (meets (accepted (charged c)) .not-above) (once j₂)
@@ -290,18 +319,19 @@ module _ (c : Returned) where
         (changeable (card (core j₂)) (now j₂ .0) (stepped (accepted (charged c))) table after-return (change j₂) (at j₂) unread (named j₂)
         (meets (accepted (charged c)) .asked-for))
 
-    left-by : FilledBy (changedTable (now j₂ .0) asks (at j₂) unread table) (vs₃ j₂) (rs₃ j₂) (ts j₂)
+    left-by : FilledBy (changedTable (now j₂ .0) asks (at j₂) unread table) (vs₃ j₂) (rs₃ j₂) (ts j₂) (gone₃ j₂)
     left-by =
-        subst (λ (x : Change). FilledBy (changedTable (now j₂ .0) x (at j₂) unread table) (vs₃ j₂) (rs₃ j₂) (ts j₂)) e
+        subst (λ (x : Change). FilledBy (changedTable (now j₂ .0) x (at j₂) unread table) (vs₃ j₂) (rs₃ j₂) (ts j₂) (gone₃ j₂)) e
         (change-filled (card (core j₂)) (now j₂ .0) (stepped (accepted (charged c))) table after-return (change j₂) (at j₂) unread
         (named j₂) (meets (accepted (charged c)) .asked-for))
 
-filled-as : (x y : Table) (vs : List Tenant) (rs : List Remembered) (ts : List ToldRule) → x .places ≡ y .places → x .ids ≡ y .ids
-    → x .n ≡ y .n → x .memory ≡ y .memory → x .next ≡ y .next → FilledBy y vs rs ts → FilledBy x vs rs ts
-filled-as x y vs rs ts u v w m t f =
+filled-as : (x y : Table) (vs : List Tenant) (rs : List Remembered) (ts : List ToldRule) (g : ℕ) → x .places ≡ y .places → x .ids ≡ y .ids
+    → x .n ≡ y .n → x .memory ≡ y .memory → x .removed ≡ y .removed → x .next ≡ y .next → FilledBy y vs rs ts g → FilledBy x vs rs ts g
+filled-as x y vs rs ts g u v w m o t f =
     record {
       table = record { places = u ∙ f .table .places; tunnels = v ∙ f .table .tunnels; count = w ∙ f .table .count };
       memory = m ∙ f .memory;
+      removed = o ∙ f .removed;
       next = t ∙ f .next;
     }
 
@@ -314,7 +344,14 @@ module _ (c : Changed) where
 
   abbrev table₃ : Table
   table₃ =
-      record { places = c .match2 .p; ids = c .match2 .ids; n = c .match2 .n; memory = c .match2 .memory; next = c .match2 .next }
+      record {
+        places = c .match2 .p;
+        ids = c .match2 .ids;
+        n = c .match2 .n;
+        memory = c .match2 .memory;
+        removed = c .match2 .removed;
+        next = c .match2 .next;
+      }
 
   -- an arm that leaves the table as its change has it
   abbrev left : Change → Table
@@ -328,32 +365,33 @@ module _ (c : Changed) where
   top-is = returned c .before .before .before .new .ensures
 
   arm : (asks : Change) → change j₃ ≡ asks → c .match2 .p ≡ left asks .places → c .match2 .ids ≡ left asks .ids
-      → c .match2 .n ≡ left asks .n → c .match2 .memory ≡ left asks .memory → c .match2 .next ≡ left asks .next
-      → FilledBy table₃ (vs₃ j₃) (rs₃ j₃) (ts j₃)
-  arm asks e p ids n m t =
-      filled-as table₃ (left asks) (vs₃ j₃) (rs₃ j₃) (ts j₃) p ids n m t (left-by (returned c) asks e)
+      → c .match2 .n ≡ left asks .n → c .match2 .memory ≡ left asks .memory → c .match2 .removed ≡ left asks .removed
+      → c .match2 .next ≡ left asks .next → FilledBy table₃ (vs₃ j₃) (rs₃ j₃) (ts j₃) (gone₃ j₃)
+  arm asks e p ids n m o t =
+      filled-as table₃ (left asks) (vs₃ j₃) (rs₃ j₃) (ts j₃) (gone₃ j₃) p ids n m o t (left-by (returned c) asks e)
 
-  after-change : FilledBy table₃ (vs₃ j₃) (rs₃ j₃) (ts j₃)
+  after-change : FilledBy table₃ (vs₃ j₃) (rs₃ j₃) (ts j₃) (gone₃ j₃)
   after-change =
       ⊎-elim
       (λ w. arm _ (w .1 .given .1)
       (w .12 ∙ w .6 .ensures
       ∙ ap (λ (v : Vcpu). inserted (w .3 .result) v (table₂ .places)) (w .4 .ensures)
       ∙ ap (λ (k : ℕ). inserted k (written (admitted (now j₃ .0) (described (w .1 .given .0 .0)))) (table₂ .places)) (w .3 .ensures))
-      (w .9 ∙ w .7 .ensures ∙ ap (λ (k : ℕ). inserted k (w .1 .given .0 .0 .tunnel) (table₂ .ids)) (w .3 .ensures)) (w .10) (w .11)
-      (w .13 ∙ w .8 .ensures
+      (w .9 ∙ w .7 .ensures ∙ ap (λ (k : ℕ). inserted k (w .1 .given .0 .0 .tunnel) (table₂ .ids)) (w .3 .ensures)) (w .10) (w .11) (w .13)
+      (w .14 ∙ w .8 .ensures
       ∙ ap (λ (m : Moment). inserted (w .3 .result) m (table₂ .next)) top-is
       ∙ ap (λ (k : ℕ). inserted k (moment never) (table₂ .next)) (w .3 .ensures)))
       (⊎-elim
-      (λ w. arm _ (w .1 .given .1) (w .7 ∙ ap (set (table₂ .places) (at j₃)) (w .3 .ensures)) (w .4) (w .5) (w .6) (w .8))
+      (λ w. arm _ (w .1 .given .1) (w .7 ∙ ap (set (table₂ .places) (at j₃)) (w .3 .ensures)) (w .4) (w .5) (w .6) (w .8) (w .9))
       (⊎-elim
-      (λ w. arm _ (w .1 .given .1) (w .7 ∙ ap (set (table₂ .places) (at j₃)) (w .3 .ensures)) (w .4) (w .5) (w .6) (w .8))
+      (λ w. arm _ (w .1 .given .1) (w .7 ∙ ap (set (table₂ .places) (at j₃)) (w .3 .ensures)) (w .4) (w .5) (w .6) (w .8) (w .9))
       (⊎-elim
       (λ w. arm _ (w .1 .given .1)
-      (w .13 ∙ w .6 .ensures ∙ ap (λ (v : Vcpu). removed (at j₃) v (table₂ .places)) (w .5 .ensures))
-      (w .10 ∙ w .8 .ensures ∙ ap (λ (t : Tunnel). removed (at j₃) t (table₂ .ids)) (w .7 .ensures)) (w .11) (w .12 ∙ w .4 .ensures)
-      (w .14 ∙ w .9 .ensures ∙ ap (λ (m : Moment). removed (at j₃) m (table₂ .next)) top-is))
-      (λ w. arm _ (w .1 .given .1) (w .5) (w .2) (w .3) (w .4) (w .6)))))
+      (w .14 ∙ w .7 .ensures ∙ ap (λ (v : Vcpu). removed (at j₃) v (table₂ .places)) (w .6 .ensures))
+      (w .11 ∙ w .9 .ensures ∙ ap (λ (t : Tunnel). removed (at j₃) t (table₂ .ids)) (w .8 .ensures)) (w .12) (w .13 ∙ w .4 .ensures)
+      (w .15 ∙ w .5 .ensures)
+      (w .16 ∙ w .10 .ensures ∙ ap (λ (m : Moment). removed (at j₃) m (table₂ .next)) top-is))
+      (λ w. arm _ (w .1 .given .1) (w .5) (w .2) (w .3) (w .4) (w .6) (w .7)))))
       (c .match2 .came)
 
   between-places : Between (now j₃ .0) (vs₃ j₃)
@@ -410,6 +448,8 @@ module _ (c : Answered) where
           ids = meet .match2 .ids;
           timer = timed c .timer-for .result;
           memory = meet .match2 .memory;
+          removed = meet .match2 .removed;
+          idle = charged (returned meet) .before .idled .result;
           running = pick .at;
           n = meet .match2 .n;
         };
@@ -456,23 +496,28 @@ returns c =
     (v .judged .result) (v .judged .ensures)
     (c .before .verdict .given .0 .0) (c .before .verdict .given .1)))
 
+idled-requires : tie.Need-idled-requires Inv-loop μ-loop Inv-loop2 μ-loop2
+idled-requires c κs =
+    let a : Accepted = c .before in
+    subst (λ (l : Moment). l .0 ≤ now (given a) .0) (sym (last-is (core (given a)) (valid (given a)))) (meets a .not-before)
+
 mul-v : tie.Need-mul-v Inv-loop μ-loop Inv-loop2 μ-loop2
-mul-v c = omega (arith, few (given (c .before)))
+mul-v c = omega (arith, few (given (before-idle (c .before))))
 
 array-copy-out-v : tie.Need-array-copy-out-v Inv-loop μ-loop Inv-loop2 μ-loop2
-array-copy-out-v c = omega (arith, few (given (c .before)))
+array-copy-out-v c = omega (arith, few (given (before-idle (c .before))))
 
 charged-requires : tie.Need-charged-requires Inv-loop μ-loop Inv-loop2 μ-loop2
 charged-requires c κs =
-    let a : Accepted = c .before .before in
+    let a : Accepted = before-idle (c .before .before) in
     let j : Recalled = given a in
     charge-asks (core j) (valid j) (now j) (change j) (meets a) unread (c .before .if2 .taken)
 
 mul-p : tie.Need-mul-p Inv-loop μ-loop Inv-loop2 μ-loop2
-mul-p c = omega (arith, few (given (c .before .before .before)))
+mul-p c = omega (arith, few (given (before-idle (c .before .before .before))))
 
 array-set-from-p : tie.Need-array-set-from-p Inv-loop μ-loop Inv-loop2 μ-loop2
-array-set-from-p c = omega (arith, few (given (c .before .before .before)))
+array-set-from-p c = omega (arith, few (given (before-idle (c .before .before .before))))
 
 new-requires : tie.Need-new-requires Inv-loop μ-loop Inv-loop2 μ-loop2
 new-requires c κs = search needs
@@ -665,23 +710,26 @@ array-copy-out-v-5 c = removable c .inside
 leaving-requires : tie.Need-leaving-requires Inv-loop μ-loop Inv-loop2 μ-loop2
 leaving-requires c κs = (removable (c .before) .room, removable (c .before) .short)
 
+plus-requires : tie.Need-plus-requires Inv-loop μ-loop Inv-loop2 μ-loop2
+plus-requires c κs = search needs
+
 vacant-requires : tie.Need-vacant-requires Inv-loop μ-loop Inv-loop2 μ-loop2
 vacant-requires c κs = search needs
 
 without-vcpu-requires : tie.Need-without-vcpu-requires Inv-loop μ-loop Inv-loop2 μ-loop2
-without-vcpu-requires c κs = removable (c .before .before .before) .inside
+without-vcpu-requires c κs = removable (c .before .before .before .before) .inside
 
 new-requires-2 : tie.Need-new-requires-2 Inv-loop μ-loop Inv-loop2 μ-loop2
 new-requires-2 c κs = search needs
 
 without-id-requires : tie.Need-without-id-requires Inv-loop μ-loop Inv-loop2 μ-loop2
-without-id-requires c κs = removable (c .before .before .before .before .before) .inside
+without-id-requires c κs = removable (c .before .before .before .before .before .before) .inside
 
 without-time-requires : tie.Need-without-time-requires Inv-loop μ-loop Inv-loop2 μ-loop2
-without-time-requires c κs = removable (c .before .before .before .before .before .before) .inside
+without-time-requires c κs = removable (c .before .before .before .before .before .before .before) .inside
 
 sub-n : tie.Need-sub-n Inv-loop μ-loop Inv-loop2 μ-loop2
-sub-n c = removable (c .before .before .before .before .before .before .before) .one
+sub-n c = removable (c .before .before .before .before .before .before .before .before) .one
 
 enum-told-4 : tie.Need-enum-told-4 Inv-loop μ-loop Inv-loop2 μ-loop2
 enum-told-4 c = search needs
@@ -749,9 +797,10 @@ returns-2 d =
     let m : Changed = meet c in
     one-more (core j) (now j) (change j) (start j .pre) (answer c)
     (answer-found (now j) (vs₃ j) (in-time c) (between-places m) (m .match2 .p) (m .match2 .ids) (m .match2 .n) (after-change m .table)
-    (rs₃ j) (m .match2 .memory) (after-change m .memory) (pick c) (picked-there c) (timed c .timer-for .result)
-    (timed c .timer-for .ensures) (held c .holder .result) (held c .holder .ensures)
-    (c .timer-said .result) (c .timer-said .ensures) (returned m .before .loop .total .ticks) (total (ts j)) (swept (returned m) .sums)
+    (rs₃ j) (m .match2 .memory) (after-change m .memory) (m .match2 .removed) (gone₃ j) (after-change m .removed)
+    (charged (returned m) .before .idled .result) (idleThen (card (core j)) (now j .0)) (idle-there (charged (returned m))) (pick c)
+    (picked-there c) (timed c .timer-for .result) (timed c .timer-for .ensures) (held c .holder .result) (held c .holder .ensures)
+    (c .timer-said .result) (c .timer-said .ensures) (returned m .before .loop .total .ticks) (totalTold (ts j)) (swept (returned m) .sums)
     ∙ sym (turned-accepted (core j) (now j) (change j) (accept (accepted (charged (returned m))))))
 
 pub turn-spec : {M : Type 1} → statement M
@@ -768,6 +817,7 @@ turn-spec =
     enum-told
     enum-known-verdict
     returns
+    idled-requires
     mul-v
     array-copy-out-v
     charged-requires
@@ -812,6 +862,7 @@ turn-spec =
     mul-v-5
     array-copy-out-v-5
     leaving-requires
+    plus-requires
     vacant-requires
     without-vcpu-requires
     new-requires-2

@@ -44,7 +44,7 @@ given d now v k p m u e f i g h = rw (g, h, e, f, i)
 
 returns : tie.Need-returns
 returns c =
-    let l : tie.After-left = c .before .before .before in
+    let l : tie.After-left = c .before .before .before .before .before in
     let p : tie.After-plus = l .before .before in
     let k : tie.After-kind-of = p .before in
     let v : tie.After-vacant = k .before .before .before in

@@ -15,14 +15,20 @@ returns : tie.Need-returns
 unfolding spentOf
 returns c = rw (sym (c .before .has-queue .ensures) ∙ not-true _ (c .if1 .taken))
 
+more-requires : tie.Need-more-requires
+more-requires c κs = c .before .before .pre .1 .1
+
 posted-requires : tie.Need-posted-requires
-posted-requires c κs = search needs
+posted-requires c κs = (c .before .before .before .pre .0, c .before .before .before .pre .1 .0)
 
 returns-2 : tie.Need-returns-2
 unfolding spentOf
 returns-2 c =
-    rw (sym (c .before .before .has-queue .ensures) ∙ not-false _ (c .before .if1 .left))
-    (ap (λ (x : Vcpu). endedAs x (c .before .before .before .args .now)) (c .posted .ensures))
+    rw (
+      sym (c .before .before .before .has-queue .ensures) ∙ not-false _ (c .before .before .if1 .left),
+      c .posted .ensures,
+      c .before .more .ensures,
+    )
 
 pub spent-spec : {M : Type 1} → statement M
-spent-spec = tie.close (tie.spec has-queue-requires returns posted-requires returns-2)
+spent-spec = tie.close (tie.spec has-queue-requires returns more-requires posted-requires returns-2)

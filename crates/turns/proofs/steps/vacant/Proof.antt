@@ -15,9 +15,12 @@ new-requires-2 c κs = search needs
 new-requires-3 : tie.Need-new-requires-3
 new-requires-3 c κs = search needs
 
+new-requires-4 : tie.Need-new-requires-4
+new-requires-4 c κs = search needs
+
 returns : tie.Need-returns
 unfolding written laid
 returns c = cc
 
 pub vacant-spec : {M : Type 1} → statement M
-vacant-spec = tie.close (tie.spec new-requires new-requires-2 new-requires-3 returns)
+vacant-spec = tie.close (tie.spec new-requires new-requires-2 new-requires-3 new-requires-4 returns)
