@@ -69,41 +69,6 @@ pub record Removal (calls : List Call) (call : Call) (tunnel : ℕ) : Type 0 whe
   pub its-ticks : then .heldTotal ≡ heldIn (heard (call ∷ calls)) (endedAt (call .now) stay)
   pub handed-over : after (call ∷ calls) .removed ≡ after calls .removed + then .heldTotal
 
--- a VCPU without its totals, and a card without any
-abbrev pub withoutIts : Vcpu → Vcpu
-withoutIts v =
-    record {
-      terms = v .terms;
-      runnable = v .runnable;
-      usable = v .usable;
-      ended = v .ended;
-      pending = v .pending;
-      boundary = v .boundary;
-      pendingTotal = 0;
-      heldTotal = 0;
-    }
-
-abbrev pub withoutTotals : Card → Card
-withoutTotals c =
-    record {
-      last = c .last;
-      running = c .running;
-      timer = c .timer;
-      vcpus = map withoutIts (c .vcpus);
-      remembered = c .remembered;
-      removed = 0;
-      idle = 0;
-    }
-
--- cards that differ in totals alone
-abbrev pub SameButTotals : Card → Card → Type 0
-SameButTotals c d = withoutTotals c ≡ withoutTotals d
-
--- a call gives them equal replies, and leaves them so
-pub record Undecided (c d : Card) (call : Call) : Type 0 where
-  pub same-reply : turn c call .reply ≡ turn d call .reply
-  pub same-after : SameButTotals (turn c call .card) (turn d call .card)
-
 -- a VCPU, and a card, with whatever other totals
 abbrev pub withOthers : (Vcpu → ℕ) → (Vcpu → ℕ) → Vcpu → Vcpu
 withOthers pending held v =
@@ -129,6 +94,22 @@ withTotals pending held removed idle c =
       removed = removed;
       idle = idle;
     }
+
+-- .. and without any: 0 in the place of each
+abbrev pub withoutIts : Vcpu → Vcpu
+withoutIts v = withOthers (λ w. 0) (λ w. 0) v
+
+abbrev pub withoutTotals : Card → Card
+withoutTotals c = withTotals (λ w. 0) (λ w. 0) 0 0 c
+
+-- cards that differ in totals alone
+abbrev pub SameButTotals : Card → Card → Type 0
+SameButTotals c d = withoutTotals c ≡ withoutTotals d
+
+-- a call gives them equal replies, and leaves them so
+pub record Undecided (c d : Card) (call : Call) : Type 0 where
+  pub same-reply : turn c call .reply ≡ turn d call .reply
+  pub same-after : SameButTotals (turn c call .card) (turn d call .card)
 
 -- the card after any calls on this one, and the replies to them; the newest first
 abbrev pub afterThese : Card → List Call → Card
