@@ -1,6 +1,7 @@
 //! `compare-sizing`: the given program and this one on the same random queries.
 
-use crate::pipe;
+use crate::long_lines::{self, CUTS};
+use crate::pipe::{self, Part};
 use crate::queries::Queries;
 use crate::query_cases;
 use crate::reached::Reached;
@@ -8,7 +9,7 @@ use crate::sizing::{self, Answer, Reader};
 use std::time::Duration;
 
 /// Inputs whose end or layout matters, each run alone.
-const ENDS: [&[u8]; 14] = [
+pub const ENDS: [&[u8]; 20] = [
     b"",
     b"\n",
     b"\r\n",
@@ -23,6 +24,12 @@ const ENDS: [&[u8]; 14] = [
     b"sup",
     b"supply 4 3 7\r",
     b"\r",
+    b"help",
+    b"help\r",
+    b"help ",
+    b"help 1 x",
+    b"help\nhelp x\nhelp\r\n",
+    b"helpp\nHELP\nhel",
 ];
 
 pub struct Plan {
@@ -40,7 +47,7 @@ pub struct Asked {
 }
 
 /// The answer of one line. The last may have no newline.
-fn answer_alone(line: &[u8]) -> Option<Answer> {
+pub fn answer_alone(line: &[u8]) -> Option<Answer> {
     let mut reader = Reader::new();
     for &byte in line {
         if let Some(answer) = reader.take(byte) {
@@ -97,14 +104,6 @@ pub fn first_difference(asked: &[Asked], output: &[u8]) -> Option<String> {
     (!rest.is_empty()).then(|| format!("more than {number} answers: {}", shown(rest)))
 }
 
-/// Lines far longer than any buffer: leading zeros, and far too many fields.
-fn long_inputs() -> [Vec<u8>; 3] {
-    let zeros = format!("supply 4 {}3 7\nsupply 4 3 2\n", "0".repeat(200_000));
-    let fields = format!("least 5{}\nsupply 4 3 5\n", " 5 1".repeat(50_000));
-    let digits = format!("supply 4 3 {}", "7".repeat(200_000));
-    [zeros, fields, digits].map(String::into_bytes)
-}
-
 fn agree(what: &str, theirs: &[u8], mine: &[u8]) -> Result<(), String> {
     if theirs == mine {
         return Ok(());
@@ -120,27 +119,61 @@ fn compare_whole(program: &str, input: &[u8]) -> Result<(), String> {
     agree(&format!("whole input \"{}\"", shown(input)), &pipe::feed(program, input)?, &all_answers(input))
 }
 
-/// Each byte is what one read gives. Behind the end nothing more comes, though the input
+/// Parts, each with the answers that this program's reader has for it before more comes, and
+/// the answers that the end of the input brings.
+fn awaited(parts: Vec<Vec<u8>>) -> (Vec<Part>, usize) {
+    let mut reader = Reader::new();
+    let mut told = |part: Vec<u8>| {
+        let answers = part.iter().filter_map(|&byte| reader.take(byte)).count();
+        (part, answers)
+    };
+    let parts = parts.into_iter().map(&mut told).collect();
+    (parts, usize::from(reader.end().is_some()))
+}
+
+/// Each part is what one read gives. Behind the end nothing more comes, though the input
 /// stays open.
+fn compare_reads(program: &str, what: &str, parts: Vec<Vec<u8>>, limit: Duration) -> Result<(), String> {
+    let mine = all_answers(&parts.concat());
+    let (mut parts, last) = awaited(parts);
+    parts.push((Vec::new(), last));
+    agree(what, &pipe::talk_in_reads(&[program], &parts, limit)?, &mine)
+}
+
 fn compare_bytes(program: &str, input: &[u8], limit: Duration) -> Result<(), String> {
-    let (mut reader, mut parts) = (Reader::new(), Vec::new());
-    for &byte in input {
-        parts.push((vec![byte], usize::from(reader.take(byte).is_some())));
+    let parts = input.iter().map(|&byte| vec![byte]).collect();
+    compare_reads(program, &format!("\"{}\" byte by byte", shown(input)), parts, limit)
+}
+
+/// Over a pipe, which keeps what the program has no room for; so the parts need no heed.
+fn compare_pipe(program: &str, what: &str, input: &[u8]) -> Result<(), String> {
+    let (parts, _) = awaited(input.chunks(4093).map(<[u8]>::to_vec).collect());
+    agree(what, &pipe::talk(&[program], &parts)?, &all_answers(input))
+}
+
+/// Lines about as long as a line can be, whole and in parts.
+fn compare_long(program: &str, limit: Duration) -> Result<(), String> {
+    for long in long_lines::inputs() {
+        agree(&long.what, &pipe::feed(program, &long.input)?, &all_answers(&long.input))?;
+        compare_pipe(program, &format!("in parts, {}", long.what), &long.input)?;
+        for cuts in &CUTS {
+            let parts = long_lines::in_reads(&long.input, cuts);
+            compare_reads(program, &format!("in reads, {}", long.what), parts, limit)?;
+        }
     }
-    parts.push((Vec::new(), usize::from(reader.end().is_some())));
-    let theirs = pipe::talk_in_reads(&[program], &parts, limit)?;
-    agree(&format!("\"{}\" byte by byte", shown(input)), &theirs, &all_answers(input))
+    Ok(())
 }
 
 fn compare_ends(program: &str, limit: Duration) -> Result<(), String> {
     ENDS.iter().try_for_each(|input| compare_whole(program, input))?;
     ENDS.iter().try_for_each(|input| compare_bytes(program, input, limit))?;
-    long_inputs().iter().try_for_each(|input| compare_whole(program, input))
+    compare_long(program, limit)
 }
 
 /// Each line is answered before the next one is sent.
 fn compare_talk(program: &str) -> Result<(), String> {
-    let lines = ["supply 4 3 7\n", "\n", "best 5 5 1 10 3\r\n", "sup\n", "least 5 2 2 4 1\n"];
+    let lines =
+        ["supply 4 3 7\n", "\n", "best 5 5 1 10 3\r\n", "sup\n", "help\n", "help x\n", "least 5 2 2 4 1\n"];
     let mut parts = Vec::new();
     let mut mine = Vec::new();
     for line in lines {

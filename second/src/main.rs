@@ -14,6 +14,7 @@ mod history;
 mod kind_cases;
 mod leaving;
 mod lines;
+mod long_lines;
 mod offsets;
 mod outside;
 mod outside_usage;
@@ -60,7 +61,7 @@ mod wrong_usages;
 
 use options::Options;
 use second::{options, pipe, random, refusal, shares};
-use std::io::{self, Read, Write};
+use std::io::{self, IsTerminal, Read, Write};
 use std::time::Duration;
 
 const USAGE: &str = "usage: second COMMAND
@@ -68,7 +69,8 @@ from standard input to standard output:
   sizing      queries to answers, by the plain reading
   card        event records to lines
   usage-lines event records to the totals at their end
-  words       records in words to bytes
+  words       records in words to bytes, each line as it comes; # begins a comment; a bad
+              line ends it with status 1, but at a terminal it is told and the next is read
   unwords     bytes to records in words
 with the program to try:
   compare-sizing PROGRAM [--seed S] [--count N] [--list 1] [--wait S]
@@ -96,7 +98,8 @@ fn main() {
     let named = |line: &&str| line.split_whitespace().next() == Some(command);
     let usage = USAGE.lines().find(named).unwrap_or("");
     if let Err(error) = Options::read(behind, usage).and_then(|options| run(command, &options)) {
-        eprintln!("{error}");
+        // `eprintln!` would panic where nobody takes it.
+        writeln!(io::stderr(), "{error}").ok();
         std::process::exit(1);
     }
 }
@@ -115,7 +118,11 @@ fn run(command: &str, options: &Options) -> Result<(), String> {
         "picture" => write_picture(options),
         "usage" => write_usage(options),
         "run" | "outside-run" | "usage-run" => write_run(command, options),
-        _ => filter(command).map_err(|error| error.to_string())?,
+        _ => match filter(command) {
+            // Nobody reads on, and whoever did knows why.
+            Err(error) if error.kind() == io::ErrorKind::BrokenPipe => std::process::exit(1),
+            ended => ended.map_err(|error| error.to_string())?,
+        },
     }
 }
 
@@ -126,10 +133,7 @@ fn filter(command: &str) -> io::Result<Result<(), String>> {
         "sizing" => sizing::run(input, output)?,
         "card" => lines::run(input, output)?,
         "usage-lines" => usage_lines::run(input, output)?,
-        "words" => match words::to_records(&io::read_to_string(input)?) {
-            Ok(bytes) => output.write_all(&bytes)?,
-            Err(error) => return Ok(Err(error)),
-        },
+        "words" => return words::run(input, output, io::stderr(), io::stdin().is_terminal()),
         "unwords" => {
             let bytes = input.bytes().collect::<io::Result<Vec<u8>>>()?;
             output.write_all(words::from_records(&bytes).as_bytes())?;

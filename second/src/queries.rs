@@ -1,10 +1,12 @@
 //! Random sizing queries: small ones mostly, some at the limits, some refused, some broken.
 
+use crate::long_lines;
 use crate::random::Random;
+use crate::sizing::LONGEST_LINE;
 
 const WORDS: [&str; 5] = ["supply", "demand", "check", "least", "best"];
 
-const NO_WORDS: [&[u8]; 14] = [
+const NO_WORDS: [&[u8]; 17] = [
     b"",
     b"supplyy",
     b"Supply",
@@ -19,10 +21,28 @@ const NO_WORDS: [&[u8]; 14] = [
     b"\xc3\xa9",
     b"bestbestbestbest",
     b"\xff\xfe",
+    b"helpp",
+    b"HELP",
+    b"hel",
 ];
 
 const NO_NUMBERS: [&[u8]; 14] =
     [b"", b"x", b"-1", b"+1", b"1x", b"x1", b"0x5", b"1e2", b"1.0", b"\t", b"1\t", b"\0", b"\xb2", b"1\r"];
+
+/// Of so many queries one is about as long as a line can be, since these take much room.
+const LONG_EVERY: u64 = 1500;
+
+/// The bytes of those, without a newline: around the longest line, and more than twice that.
+pub const LONG: [u64; 5] = [LONGEST_LINE - 1, LONGEST_LINE, LONGEST_LINE + 1, LONGEST_LINE + 2, 140_000];
+
+/// How those begin and go on; they end with a digit. The first is answered by `ok`.
+const LONG_FILLS: [(&[u8], &[u8]); 5] = [
+    (b"supply 4 3 ", b"0"),
+    (b"least 5", b" 5 1"),
+    (b"supply", b"y"),
+    (b"help ", b"\r"),
+    (b"", b"supply 4 3 7 "),
+];
 
 /// A query in numbers. The tasks are (period, cost).
 struct Draft {
@@ -81,15 +101,20 @@ const SELDOM_WEIGHT: u64 = 600_000_000;
 
 pub struct Queries {
     random: Random,
+    made: u64,
 }
 
 impl Queries {
     pub fn new(seed: u64) -> Queries {
-        Queries { random: Random::new(seed) }
+        Queries { random: Random::new(seed), made: 0 }
     }
 
     /// One line with its newline.
     pub fn next(&mut self) -> Vec<u8> {
+        self.made += 1;
+        if self.made % LONG_EVERY == 0 {
+            return self.long_line(self.made / LONG_EVERY - 1);
+        }
         let most = if self.random.once_in(2000) { SELDOM_WEIGHT } else { USUAL_WEIGHT };
         loop {
             let text = self.query();
@@ -99,6 +124,18 @@ impl Queries {
                 return line;
             }
         }
+    }
+
+    /// Each length in turn, without and with a carriage return; then so with the next fill.
+    fn long_line(&mut self, turn: u64) -> Vec<u8> {
+        let (place, carriage) = (turn / 2, turn % 2 == 1);
+        let lengths = LONG.len() as u64;
+        let bytes = LONG[(place % lengths) as usize] as usize;
+        let (front, fill) = LONG_FILLS[(place / lengths) as usize % LONG_FILLS.len()];
+        let end = format!("{}{}", self.random.below(10), if carriage { "\r" } else { "" });
+        let mut line = long_lines::filled(front, fill, end.as_bytes(), bytes);
+        line.push(b'\n');
+        line
     }
 
     fn ending(&mut self) -> &'static [u8] {
@@ -111,7 +148,8 @@ impl Queries {
 
     fn query(&mut self) -> Text {
         match self.random.below(100) {
-            0..=54 => self.small().text(),
+            0..=53 => self.small().text(),
+            54 => self.help(),
             55..=64 => self.at_limits().text(),
             65..=74 => self.refused().text(),
             75..=79 => self.bad_tasks().text(),
@@ -326,6 +364,19 @@ impl Queries {
             text.fields[place] = self.random.pick(&NO_NUMBERS).to_vec();
         }
         text
+    }
+
+    /// It has no fields; some come with one or more.
+    fn help(&mut self) -> Text {
+        let several = self.random.between(2, 40) as usize;
+        let fields = match self.random.below(6) {
+            0..=1 => Vec::new(),
+            2 => vec![Vec::new()],
+            3 => vec![self.random.below(2002).to_string().into_bytes()],
+            4 => vec![self.random.pick(&NO_NUMBERS).to_vec()],
+            _ => (0..several).map(|_| self.random.pick(&[&b"1"[..], b"", b"x"]).to_vec()).collect(),
+        };
+        Text { word: b"help".to_vec(), fields }
     }
 
     fn no_word(&mut self) -> Text {

@@ -1,9 +1,10 @@
 //! Which cases a sizing query meets, told from its bytes and its answer.
 
+use crate::queries::LONG;
 use crate::reached::Reached;
 use crate::refusal::Refusal;
 use crate::shares::{self, Tasks};
-use crate::sizing::Answer;
+use crate::sizing::{Answer, LONGEST_LINE};
 
 /// A line taken apart once more, the whole of it at hand.
 struct Parts<'a> {
@@ -48,17 +49,39 @@ pub fn note(line: &[u8], answer: Option<&Answer>, reached: &mut Reached) {
         reached.add(case);
         return;
     };
+    note_length(line, answer, reached);
     let parts = take_apart(bare);
-    let answered = !matches!(answer, Answer::BadWord | Answer::BadField(_));
+    let answered = matches!(answer, Answer::Numbers(_) | Answer::No(_) | Answer::Help);
     reached.add_if(answered && bare.len() < line.len(), "a carriage return dropped");
     reached.add_if(bare.ends_with(b"\r"), "two carriage returns");
     match answer {
+        Answer::BadLine => reached.add("bad line"),
+        Answer::Help => {
+            reached.add(if bare.len() < line.len() { "help with a carriage return" } else { "help" })
+        }
         Answer::BadWord => note_word(bare, reached),
         Answer::BadField(place) => note_field(&parts, *place, reached),
         Answer::Numbers(numbers) => note_ok(&parts, numbers, reached),
         Answer::No(refusal) => note_row(&parts, refusal, reached),
     }
 }
+
+fn length_case(bytes: u64, carriage: bool, answer: &str) -> String {
+    format!("{bytes} bytes{}: {answer}", if carriage { " with a carriage return" } else { "" })
+}
+
+/// Without its newline.
+fn note_length(line: &[u8], answer: &Answer, reached: &mut Reached) {
+    let bytes = line.len() as u64;
+    if LONG.contains(&bytes) {
+        let answer = answer.line();
+        let front = answer.split(' ').next().unwrap_or("");
+        let told = if front == "ok" { front } else { &answer };
+        reached.add(length_case(bytes, line.ends_with(b"\r"), told));
+    }
+}
+
+const NEAR_HELP: [&str; 3] = ["helpp", "HELP", "hel"];
 
 fn note_word(bare: &[u8], reached: &mut Reached) {
     let word = bare.split(|&byte| byte == b' ').next().unwrap_or(b"");
@@ -68,6 +91,9 @@ fn note_word(bare: &[u8], reached: &mut Reached) {
     reached.add_if(words.iter().any(|w| word.len() > w.len() && word.starts_with(w)), "bad word: longer");
     reached.add_if(words.iter().any(|w| word.len() < w.len() && w.starts_with(word)), "bad word: shorter");
     reached.add_if(words.contains(&&word.to_ascii_lowercase()[..]), "bad word: capitals");
+    for near in NEAR_HELP {
+        reached.add_if(word == near.as_bytes(), &format!("bad word: {near}"));
+    }
 }
 
 fn note_field(parts: &Parts, place: u64, reached: &mut Reached) {
@@ -79,7 +105,7 @@ fn note_field(parts: &Parts, place: u64, reached: &mut Reached) {
     reached.add_if(place > 34, "bad field behind the 34th");
     let kind = if place > count {
         "missing"
-    } else if word == "supply" && place == 4 {
+    } else if word == "help" || word == "supply" && place == 4 {
         "too many"
     } else if parts.fields[place as usize - 1].is_empty() {
         "empty"
@@ -90,6 +116,18 @@ fn note_field(parts: &Parts, place: u64, reached: &mut Reached) {
     let first_zero = count > 0 && parts.fields[0] == b"0";
     reached.add_if(first_zero && place > 1, "bad field before row 33 or 35");
     reached.add_if(count > 40, "bad field in a long list");
+    if word == "help" {
+        note_help_fields(&parts.fields, reached);
+    }
+}
+
+fn note_help_fields(fields: &[&[u8]], reached: &mut Reached) {
+    let (first, alone) = (fields[0], fields.len() == 1);
+    let digits = !first.is_empty() && first.iter().all(u8::is_ascii_digit);
+    reached.add_if(alone && first.is_empty(), "help with an empty field");
+    reached.add_if(alone && digits, "help with a number");
+    reached.add_if(alone && !digits && !first.is_empty(), "help with no number");
+    reached.add_if(!alone, "help with several fields");
 }
 
 fn note_ok(parts: &Parts, answer: &[u64], reached: &mut Reached) {
@@ -262,7 +300,7 @@ pub fn asked() -> Vec<String> {
         all.push(format!("{word} length 2000"));
         all.push(format!("{word} 35: length 2001"));
     }
-    all.extend(asked_places());
+    all.extend(asked_places().into_iter().chain(asked_lines()));
     all.extend((1..=34).map(|place| format!("bad field {place}")));
     for row in [31, 33, 35] {
         all.push(format!("above 2^32 no {row}"));
@@ -283,7 +321,15 @@ fn asked_places() -> Vec<String> {
     all
 }
 
-const PLAIN: [&str; 39] = [
+/// Each length, without and with a carriage return, and what is nearly `help`.
+fn asked_lines() -> Vec<String> {
+    let answer = |bytes| if bytes > LONGEST_LINE { "bad line" } else { "ok" };
+    let both = |bytes| [false, true].map(|carriage| length_case(bytes, carriage, answer(bytes)));
+    let near_help = NEAR_HELP.map(|near| format!("bad word: {near}"));
+    LONG.into_iter().flat_map(both).chain(near_help).collect()
+}
+
+const PLAIN: [&str; 47] = [
     "least no 34",
     "best no 34",
     "check ok 0",
@@ -323,4 +369,12 @@ const PLAIN: [&str; 39] = [
     "a carriage return dropped",
     "two carriage returns",
     "a last line without a newline",
+    "bad line",
+    "help",
+    "help with a carriage return",
+    "help with an empty field",
+    "help with a number",
+    "help with no number",
+    "help with several fields",
+    "help bad field: too many",
 ];

@@ -1,9 +1,17 @@
 //! `sizing`: queries one a line, answers one a line. A line is taken byte by byte,
-//! so that one of any length needs no more memory than a short one.
+//! so that one of any length needs no more memory than a short one; one that is too long
+//! is a bad line, whatever stands in it.
 
 use crate::refusal::Refusal;
 use crate::shares::{self, Tasks, MOST_TASKS};
 use std::io::{self, Read, Write};
+
+/// The bytes of the longest line, without its newline. A carriage return at its end counts.
+pub const LONGEST_LINE: u64 = 65_535;
+
+/// The answer to `help`.
+pub const HELP: &str = "supply P B t | demand i t TASKS | check P B TASKS | least P TASKS | best PMAX TASKS \
+                        (TASKS: period cost period cost ..)";
 
 /// Two leading numbers and one task more than are allowed.
 const KEPT_FIELDS: usize = 2 + 2 * (MOST_TASKS + 1);
@@ -14,6 +22,8 @@ const KEPT_WORD: usize = 7;
 pub enum Answer {
     Numbers(Vec<u64>),
     No(Refusal),
+    Help,
+    BadLine,
     BadWord,
     BadField(u64),
 }
@@ -26,6 +36,8 @@ impl Answer {
                 format!("ok {}", words.join(" "))
             }
             Answer::No(refusal) => format!("no {} {}", refusal.number, refusal.detail),
+            Answer::Help => HELP.to_string(),
+            Answer::BadLine => "bad line".to_string(),
             Answer::BadWord => "bad word".to_string(),
             Answer::BadField(place) => format!("bad field {place}"),
         }
@@ -39,6 +51,7 @@ enum Word {
     Check,
     Least,
     Best,
+    Help,
 }
 
 impl Word {
@@ -49,6 +62,7 @@ impl Word {
             b"check" => Some(Word::Check),
             b"least" => Some(Word::Least),
             b"best" => Some(Word::Best),
+            b"help" => Some(Word::Help),
             _ => None,
         }
     }
@@ -59,7 +73,12 @@ impl Word {
             Word::Supply => 3,
             Word::Demand | Word::Check => 2,
             Word::Least | Word::Best => 1,
+            Word::Help => 0,
         }
+    }
+
+    fn takes_tasks(self) -> bool {
+        !matches!(self, Word::Supply | Word::Help)
     }
 }
 
@@ -129,7 +148,8 @@ impl Line {
     /// The first field that is missing, too many or no number.
     fn bad_field(&self, word: Word) -> Option<u64> {
         let missing = (self.fields < word.leading()).then_some(self.fields + 1);
-        let extra = (word == Word::Supply && self.fields > 3).then_some(4);
+        let too_many = !word.takes_tasks() && self.fields > word.leading();
+        let extra = too_many.then_some(word.leading() + 1);
         [self.no_number, missing, extra].into_iter().flatten().min()
     }
 
@@ -160,6 +180,7 @@ fn ask(word: Word, numbers: &[u64]) -> Answer {
         Word::Check => shares::check(tasks, lead[0], lead[1]).map(|met| vec![u64::from(met)]),
         Word::Least => shares::least(tasks, lead[0]).map(|b| vec![b]),
         Word::Best => shares::best(tasks, lead[0]).map(|i| vec![i.period, i.budget]),
+        Word::Help => return Answer::Help,
     };
     match result {
         Ok(numbers) => Answer::Numbers(numbers),
@@ -169,39 +190,51 @@ fn ask(word: Word, numbers: &[u64]) -> Answer {
 
 /// Takes bytes and gives the answers of the lines that end with them.
 pub struct Reader {
+    longest: u64,
+    /// The bytes of the line so far, all of them.
+    length: u64,
     line: Line,
     carriage: bool,
 }
 
 impl Reader {
     pub fn new() -> Reader {
-        Reader { line: Line::new(), carriage: false }
+        Reader::up_to(LONGEST_LINE)
+    }
+
+    /// With another longest line.
+    pub fn up_to(longest: u64) -> Reader {
+        Reader { longest, length: 0, line: Line::new(), carriage: false }
     }
 
     pub fn take(&mut self, byte: u8) -> Option<Answer> {
         if byte == b'\n' {
-            self.carriage = false;
-            return std::mem::replace(&mut self.line, Line::new()).answer();
+            let next = Reader::up_to(self.longest);
+            return std::mem::replace(self, next).end();
         }
-        self.keep_carriage();
-        if byte == b'\r' {
-            self.carriage = true;
-        } else {
-            self.line.take(byte);
+        self.length += 1;
+        if self.length <= self.longest {
+            self.read(byte);
         }
         None
     }
 
     /// A carriage return that the line's end does not follow is a byte of the line.
-    fn keep_carriage(&mut self) {
-        if std::mem::replace(&mut self.carriage, false) {
+    fn read(&mut self, byte: u8) {
+        if std::mem::replace(&mut self.carriage, byte == b'\r') {
             self.line.take(b'\r');
+        }
+        if byte != b'\r' {
+            self.line.take(byte);
         }
     }
 
     /// The answer of a last line without a newline. The end of input ends it as a newline
     /// would, so a carriage return before it is dropped too.
     pub fn end(self) -> Option<Answer> {
+        if self.length > self.longest {
+            return Some(Answer::BadLine);
+        }
         self.line.answer()
     }
 }
@@ -312,8 +345,53 @@ mod tests {
         for (query, answer) in asked {
             assert_eq!(one(query), answer, "{query}");
         }
-        let long = format!("supply {}4 3 7", "0".repeat(100_000));
+        let long = format!("supply {}4 3 7", "0".repeat(60_000));
         assert_eq!(one(&long), "ok 4");
+    }
+
+    #[test]
+    fn help_has_no_fields() {
+        let text = "supply P B t | demand i t TASKS | check P B TASKS | least P TASKS | best PMAX TASKS (TASKS: period cost period cost ..)";
+        assert_eq!(lines(b"help\nhelp\r\nhelp"), [text; 3]);
+        for with_fields in ["help ", "help  ", "help 1", "help x", "help supply 1", "help 1 2 3 4", "help \t"]
+        {
+            assert_eq!(one(with_fields), "bad field 1", "{with_fields}");
+        }
+        for no_word in ["helpp", "HELP", "Help", "hel", " help", "help\t", "help\r\r", "?"] {
+            assert_eq!(one(no_word), "bad word", "{no_word}");
+        }
+    }
+
+    /// A query of so many bytes.
+    fn long(bytes: usize) -> String {
+        format!("supply 4 3 {}7", "0".repeat(bytes - 12))
+    }
+
+    #[test]
+    fn a_line_has_a_longest_length() {
+        for (bytes, answer) in
+            [(65_534, "ok 4"), (65_535, "ok 4"), (65_536, "bad line"), (65_537, "bad line")]
+        {
+            for line in [long(bytes), long(bytes - 1) + "\r"] {
+                assert_eq!(line.len(), bytes);
+                assert_eq!(one(&line), answer, "{bytes}");
+                assert_eq!(lines(format!("{line}\nhelpp\n").as_bytes()), [answer, "bad word"], "{bytes}");
+                assert_eq!(lines(format!("\n{line}\n{line}").as_bytes()), [answer, answer], "{bytes}");
+            }
+        }
+    }
+
+    #[test]
+    fn what_stands_in_a_line_too_long_is_skipped() {
+        for bytes in [65_536, 65_537, 200_000] {
+            for fill in ["x", " ", "\r", "0", "help", "supply 4 3 7\r"] {
+                let line = &fill.repeat(bytes)[..bytes];
+                assert_eq!(
+                    lines(format!("{line}\nsupply 4 3 5\n{line}").as_bytes()),
+                    ["bad line", "ok 3", "bad line"]
+                );
+            }
+        }
     }
 
     #[test]

@@ -287,6 +287,23 @@ fn a_sizing_with_another_place_is_seen() {
     }
 }
 
+/// A bad line told twice, otherwise or not at all, and another text or place of help.
+#[test]
+fn a_sizing_with_another_bad_line_or_help_is_seen() {
+    let edits = [
+        ("s/^(bad line)$/\\1\\n\\1/", "bad line"),
+        ("s/^bad line$/bad word/", "bad line"),
+        ("/^bad line$/d", "bad line"),
+        ("s/^(supply P .*)$/\\1 /", "second:  supply P B t | demand"),
+        ("s/^(supply P .*) [(].*$/\\1/", "second:  supply P B t | demand"),
+        ("s/^bad field 1$/bad field 0/", "second:  bad field 1"),
+    ];
+    for (edit, what) in edits {
+        let fault = answered_otherwise(&["compare-sizing", "--wait", SHORT], "sizing", edit).unwrap_err();
+        assert!(fault.contains(what), "{edit}: {fault}");
+    }
+}
+
 #[test]
 fn answers_that_are_not_changed_agree() {
     for (words, command) in [(&ON_CARD[..], "card"), (&["compare-sizing"], "sizing")] {

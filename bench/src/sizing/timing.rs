@@ -146,11 +146,19 @@ fn hard_for_plain() -> List {
     List { periods, costs }
 }
 
-fn small_stack(program: &str, list: &List) -> Result<String, String> {
-    let script = format!("ulimit -s 256 && exec {program}");
+fn answers_with(kilobytes: u32, program: &str, list: &List) -> bool {
+    let script = format!("ulimit -s {kilobytes} && exec {program}");
     let query = list.query(P_MAX) + "\n";
-    let output = pipe::feed_command(&["sh", "-c", &script], query.as_bytes())?;
-    if output == expected(list, 1).as_bytes() {
+    let output = pipe::feed_command(&["sh", "-c", &script], query.as_bytes());
+    output.is_ok_and(|output| output == expected(list, 1).as_bytes())
+}
+
+/// Two buffers and two tables do not fit in 64 KB: where it answers so, the limit did not reach it (an emulator has its own).
+fn small_stack(program: &str, list: &List) -> Result<String, String> {
+    if answers_with(64, program, list) {
+        return Ok("a limit on the stack does not reach the program here: not looked at".to_string());
+    }
+    if answers_with(256, program, list) {
         return Ok("with a stack of 256 KB: the same answer".to_string());
     }
     Err("with a stack of 256 KB: another answer or none".to_string())

@@ -9,6 +9,9 @@ use native.Mathlib.Omega.{arith}
 use lib.ListN.{length, take, drop}
 use lib.Seq.{take-add, drop-at, length-take-le}
 use borrow.Author.Tests.{le-ltb}
+use Rattle.reads.specs.declared.Standing.{Standing}
+use Rattle.reads.specs.declared.Standing.the-variants.{WriteFailed}
+use Rattle.reads.specs.Reads.{standing}
 use Rattle.rules.proofs.Tests.{clash}
 use Rattle.turns.specs.declared.Core.{Core}
 use Rattle.turns.specs.declared.Refusal.{Refusal}
@@ -17,10 +20,8 @@ use Rattle.lines.specs.Text.{longest}
 use Rattle.lines.specs.Serve.{Run, serveOf, handed}
 use Rattle.lines.proofs.Parts.{any-room}
 use Rattle.lines.proofs.Rest.{Ahead, ahead-next, ahead-done}
-use Rattle.card.specs.declared.Standing.{Standing}
-use Rattle.card.specs.declared.Standing.the-variants.{WriteFailed}
 use Rattle.card.specs.declared.Round.{Round}
-use Rattle.card.specs.Program.{standing, servedPart}
+use Rattle.card.specs.Program.{servedPart}
 
 -- the part that serving was lent is the rest of what is to be answered
 rest-of : (from end : ℕ) (l : List ℕ) → from ≤ end → end ≤ length l → take (end - from) (drop from l) ≡ drop from (take end l)

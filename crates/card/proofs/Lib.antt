@@ -1,6 +1,5 @@
--- The laws of `card`: bytes that are moved to the front (Moving), the goes of answering (Going), a round (Rounds), and the
--- rounds of a run (Runs); then what a run means (Meaning). Assumes nothing.
-pub mod Moving
+-- The laws of `card`: the goes of answering (Going), a round (Rounds), and that it keeps the laws of a loop (Runs); then what a run
+-- means (Meaning). Assumes nothing.
 pub mod Going
 pub mod Rounds
 pub mod Runs

@@ -1,18 +1,23 @@
 -- What a run means follows from what `run` promises. Assumes nothing.
-use Prim.Native.Nat.{ℕ, zero, suc, _+_, _≤_}
+use Prim.Native.Nat.{ℕ, suc, _+_, _^_, _≤_}
 use mathlib.Core.Path.{_≡_, refl, ap, sym, _∙_, subst}
-use mathlib.Core.Bool.{Bool, true, false, cond}
+use mathlib.Core.Bool.{Bool, true, false}
 use mathlib.Core.List.{List, [], _∷_, _++_, append-nil}
 use mathlib.Core.Logic.{_⊎_, inl, inr, ⊎-elim}
 use mathlib.Core.Option.{Option, none, some}
 use native.Mathlib.Omega.{arith}
 use native.Mathlib.Nat.{zero-add}
-use lib.Dec.{leb, eqb}
+use lib.Dec.{eqb}
 use lib.IntN.{ℤ, pos, negsuc}
-use lib.ListN.{length, take, length-take}
-use borrow.Author.Tests.{leb-true}
+use lib.ListN.{length, take}
 use Rattle.io.specs.Counts.{clamped}
-use Rattle.libc.specs.Io.{Moved}
+use Rattle.reads.specs.declared.Standing.{Standing}
+use Rattle.reads.specs.declared.Standing.the-variants.{GoesOn, EndOfInput, Refused, ReadFailed, WriteFailed, ByteLimit}
+use Rattle.reads.specs.Reads.{Bytes, Read, came, isZero, atEnd, isBelow, hasFailed}
+use Rattle.reads.specs.Program.{afterReads, EachGoesOn, Ran}
+use Rattle.reads.proofs.Reasons.{number, refused-stops, stops-refused, end-last, last-ends, limit-when, no-read-failed, not-write}
+use Rattle.reads.proofs.Brought.{brings, came-bytes}
+use Rattle.reads.proofs.Runs.{so-far, no-more}
 use Rattle.rules.proofs.Tests.{clash}
 use Rattle.turns.specs.declared.Refusal.{Refusal}
 use Rattle.turns.specs.State.{made}
@@ -25,48 +30,10 @@ use Rattle.lines.proofs.Rest.{all-used}
 use Rattle.lines.proofs.Parts.{any-cut}
 use Rattle.lines.proofs.Answered.{answered, all-answered}
 use Rattle.lines.proofs.Answers.{answers}
-use Rattle.card.specs.declared.Standing.{Standing}
-use Rattle.card.specs.declared.Standing.the-variants.{GoesOn, EndOfInput, Refused, ReadFailed, WriteFailed, ByteLimit}
 use Rattle.card.specs.declared.Round.{Round}
-use Rattle.card.specs.Program.{mostBytes, standing, Read, brought, came, afterRead, afterReads, EachGoesOn, Ran}
-use Rattle.card.specs.Meaning.{isZero, atEnd, isBelow, hasFailed, whole, Meaning}
-use Rattle.card.proofs.Runs.{number, goes-when, SoFar, so-far}
-
-refused-stops : (stopped last : Bool) (offset : ℕ) → standing true stopped last offset ≡ Refused → stopped ≡ true
-refused-stops true last offset h = refl
-refused-stops false true offset h = absurd (omega (arith, ap number h))
-refused-stops false false offset h = go (leb mostBytes offset) h
-  where
-    go : (t : Bool) → cond t ByteLimit GoesOn ≡ Refused → false ≡ true
-    go true h = absurd (omega (arith, ap number h))
-    go false h = absurd (omega (arith, ap number h))
-
-end-last : (stopped last : Bool) (offset : ℕ) → standing true stopped last offset ≡ EndOfInput → (last ≡ true) × (stopped ≡ false)
-end-last true last offset h = absurd (omega (arith, ap number h))
-end-last false true offset h = (refl, refl)
-end-last false false offset h = go (leb mostBytes offset) h
-  where
-    go : (t : Bool) → cond t ByteLimit GoesOn ≡ EndOfInput → (false ≡ true) × (_≡_ {A = Bool} false false)
-    go true h = absurd (omega (arith, ap number h))
-    go false h = absurd (omega (arith, ap number h))
-
-limit-when : (stopped last : Bool) (offset : ℕ) → standing true stopped last offset ≡ ByteLimit → mostBytes ≤ offset
-limit-when true last offset h = absurd (omega (arith, ap number h))
-limit-when false true offset h = absurd (omega (arith, ap number h))
-limit-when false false offset h = go (leb mostBytes offset) refl h
-  where
-    go : (t : Bool) → leb mostBytes offset ≡ t → cond t ByteLimit GoesOn ≡ ByteLimit → mostBytes ≤ offset
-    go true t h = leb-true mostBytes offset t
-    go false t h = absurd (omega (arith, ap number h))
-
-no-read-failed : (stopped last : Bool) (offset : ℕ) → standing true stopped last offset ≡ ReadFailed → ⊥
-no-read-failed true last offset h = absurd (omega (arith, ap number h))
-no-read-failed false true offset h = absurd (omega (arith, ap number h))
-no-read-failed false false offset h = go (leb mostBytes offset) h
-  where
-    go : (t : Bool) → cond t ByteLimit GoesOn ≡ ReadFailed → ⊥
-    go true h = absurd (omega (arith, ap number h))
-    go false h = absurd (omega (arith, ap number h))
+use Rattle.card.specs.Program.{afterRead, program}
+use Rattle.card.specs.Meaning.{whole, Meaning}
+use Rattle.card.proofs.Runs.{SoFar, laws}
 
 -- at the end of the input all bytes are used, or it was refused
 end-used : (s : List ℕ) (last : Bool) → last ≡ true → serveOf (made []) 0 s last none .stopped ≡ false
@@ -89,7 +56,7 @@ record Means (s : List ℕ) (last failed : Bool) (r : Round) : Type 0 where
   at-end : r .standing ≡ EndOfInput → (last ≡ true) × (serveOf (made []) 0 s last none .stopped ≡ false) × (r .offset ≡ length s)
   ends : last ≡ true → serveOf (made []) 0 s last none .stopped ≡ false → r .standing ≡ EndOfInput
   fails : (r .standing ≡ ReadFailed → failed ≡ true) × (failed ≡ true → r .standing ≡ ReadFailed)
-  limit : r .standing ≡ ByteLimit → mostBytes ≤ r .offset
+  limit : r .standing ≡ ByteLimit → 2 ^ 63 ≤ r .offset
 
 so-far-means : (s : List ℕ) (r : Round) (how : Standing) (x : Refusal) (failed : Bool) → SoFar s r → (how ≡ Refused → ⊥) → (how ≡ EndOfInput → ⊥)
     → (how ≡ ByteLimit → ⊥) → (how ≡ ReadFailed → failed ≡ true) × (failed ≡ true → how ≡ ReadFailed)
@@ -120,68 +87,34 @@ read-means (pos k) part s before f =
       core-is = refl;
       used-is = omega arith;
       refused = refused-stops (run .stopped) (eqb k 0) (0 + run .used);
-      stops = λ h. ap (λ (t : Bool). standing true t (eqb k 0) (0 + run .used)) h;
+      stops = stops-refused (run .stopped) (eqb k 0) (0 + run .used);
       refusal-is = λ h. refl;
       at-end = λ h.
           let e = end-last (run .stopped) (eqb k 0) (0 + run .used) h in
           (e .0, e .1, omega (arith, end-used all (eqb k 0) (e .0) (e .1)));
-      ends = λ h n.
-          ap (λ (t : Bool). standing true t (eqb k 0) (0 + run .used)) n ∙ ap (λ (t : Bool). standing true false t (0 + run .used)) h;
+      ends = last-ends (run .stopped) (eqb k 0) (0 + run .used);
       fails = (λ h. absurd (no-read-failed (run .stopped) (eqb k 0) (0 + run .used) h), λ h. clash (sym h));
-      limit = λ h. limit-when (run .stopped) (eqb k 0) (0 + run .used) h;
+      limit = limit-when (run .stopped) (eqb k 0) (0 + run .used);
     }
 
-after-means : (reads : List Read) → EachGoesOn reads → Means (came reads) (atEnd reads) (hasFailed reads) (afterReads reads)
+after-means : (reads : List Read) → EachGoesOn program reads → Means (came reads) (atEnd reads) (hasFailed reads) (afterReads program reads)
 after-means [] e =
-    so-far-means [] (afterReads []) GoesOn noRefusal false (so-far [] refl) (λ h. omega (arith, ap number h)) (λ h. omega (arith, ap number h))
+    so-far-means [] (afterReads program []) GoesOn noRefusal false (so-far laws [] refl) (λ h. omega (arith, ap number h)) (λ h. omega (arith, ap number h))
     (λ h. omega (arith, ap number h)) (λ h. absurd (omega (arith, ap number h)), λ h. clash (sym h))
-after-means (x ∷ before) e = read-means (x .got) (x .part) (came before) (afterReads before) (so-far before (e .0))
+after-means (x ∷ before) e = read-means (x .got) (x .part) (came before) (afterReads program before) (so-far laws before (e .0))
 
--- where the program goes on, the input has not ended and was not refused
-goes-more : (got : ℤ) (s : List ℕ) (before : Round) → afterRead got s before .standing ≡ GoesOn
-    → (isZero got ≡ false) × (isBelow got ≡ false)
-goes-more (pos k) s before h =
-    let run : Run = serveOf (made []) 0 s (eqb k 0) none in
-    (goes-when (run .stopped) (eqb k 0) (0 + run .used) h .1, refl)
-goes-more (negsuc k) s before h = absurd (omega (arith, ap number h))
-
-goes-means : (reads : List Read) → afterReads reads .standing ≡ GoesOn
-    → (whole reads .stopped ≡ false) × (atEnd reads ≡ false) × (hasFailed reads ≡ false)
-goes-means reads h =
-    let e = more reads h in
-    (ap (λ (t : Bool). serveOf (made []) 0 (came reads) t none .stopped) (e .0) ∙ so-far reads h .goes, e .0, e .1)
-  where
-    more : (reads : List Read) → afterReads reads .standing ≡ GoesOn → (atEnd reads ≡ false) × (hasFailed reads ≡ false)
-    more [] h = (refl, refl)
-    more (x ∷ before) h = goes-more (x .got) (came (x ∷ before)) (afterReads before) h
-
-earlier : (later : List Read) (x : Read) (before : List Read) → EachGoesOn (later ++ (x ∷ before)) → afterReads before .standing ≡ GoesOn
-earlier [] x before e = e .0
-earlier (y ∷ later) x before e = earlier later x before (e .1)
-
-no-more : (reads : List Read) → EachGoesOn reads → (later : List Read) (x : Read) (before : List Read) → reads ≡ later ++ (x ∷ before)
+-- nor does a read come after a refusal
+none-after : (reads : List Read) → EachGoesOn program reads → (later : List Read) (x : Read) (before : List Read)
+    → reads ≡ later ++ (x ∷ before)
     → (whole before .stopped ≡ false) × (atEnd before ≡ false) × (hasFailed before ≡ false)
-no-more reads e later x before h = goes-means before (earlier later x before (subst EachGoesOn h e))
+none-after reads e later x before h =
+    let n = no-more laws reads e later x before h in
+    (ap (λ (t : Bool). serveOf (made []) 0 (came before) t none .stopped) (n .1) ∙ so-far laws before (n .0) .goes, n .1, n .2)
 
-brings : (x : Read) (k : ℕ) → x .got ≡ pos k → length (brought x) ≡ k
-brings x k e =
-    let few : k ≤ length (x .part) = subst (Moved (length (x .part))) e (x .in-room) in
-    ap (λ (z : ℤ). length (take (clamped z (length (x .part))) (x .part))) e
-    ∙ omega (arith, length-take (clamped (pos k) (length (x .part))) (x .part))
-
-front-bytes : (n : ℕ) (s : List ℕ) → AreBytes s → AreBytes (take n s)
-front-bytes zero s h = tt
-front-bytes (suc n) [] h = tt
-front-bytes (suc n) (b ∷ s) h = (h .0, front-bytes n s (h .1))
-
-both-bytes : (s t : List ℕ) → AreBytes s → AreBytes t → AreBytes (s ++ t)
-both-bytes [] t h k = k
-both-bytes (b ∷ s) t h k = (h .0, both-bytes s t (h .1) k)
-
-came-bytes : (reads : List Read) → AreBytes (came reads)
-came-bytes [] = tt
-came-bytes (x ∷ before) =
-    both-bytes (came before) (brought x) (came-bytes before) (front-bytes (clamped (x .got) (length (x .part))) (x .part) (x .are-bytes))
+-- the same of each place and along the list
+all-bytes : (s : List ℕ) → Bytes s → AreBytes s
+all-bytes [] h = tt
+all-bytes (b ∷ s) h = (h 0, all-bytes s (λ i. h (suc i)))
 
 -- where the input has ended or is refused, nothing that may come behind it changes a line
 whole-lines : (s : List ℕ) (last : Bool) → (last ≡ true) ⊎ (serveOf (made []) 0 s last none .stopped ≡ true)
@@ -213,35 +146,31 @@ refused-where s last h = go (a .stop) refl
         let r : serveOf (made []) 0 s last none .refusal ≡ x = a .refusal-is x e in
         rw r (ap (λ (y : Asked). y .refusal) (a .refused x e .1), subst (λ (n : ℕ). Detail n (x .detail)) (zero-add _) (a .stops-at x e .1))
 
--- the standing tells a failed write from every other end
-not-write : (r : Round) (how : Standing) → r .standing ≡ WriteFailed → (number how ≡ 4 → ⊥) → r .standing ≡ how → ⊥
-not-write r how w n h = n (ap number (sym h ∙ w))
-
-pub meaning : (r : Round) (n : Ran r) → Meaning r (n .reads)
+pub meaning : (r : Round) (n : Ran program r) → Meaning r (n .reads)
 meaning r n = go (n .served)
   where
     reads : List Read
     reads = n .reads
 
-    go : (r .standing ≡ WriteFailed) ⊎ (r ≡ afterReads reads) → Meaning r reads
+    go : (r .standing ≡ WriteFailed) ⊎ (r ≡ afterReads program reads) → Meaning r reads
     go (inl w) =
         record {
           all-brought = brings;
           every-byte = λ h. absurd (h w);
           refused = λ h. absurd (h w);
-          end-of-input = λ h. absurd (not-write r EndOfInput w (λ z. omega arith) h);
+          end-of-input = λ h. absurd (not-write (r .standing) EndOfInput w (λ z. omega arith) h);
           at-the-end = λ h. absurd (h w);
           read-failed = λ h. absurd (h w);
-          byte-limit = λ h. absurd (not-write r ByteLimit w (λ z. omega arith) h);
+          byte-limit = λ h. absurd (not-write (r .standing) ByteLimit w (λ z. omega arith) h);
           a-reason = n .ends;
-          no-more-reads = no-more reads (n .each-goes-on);
+          no-more-reads = none-after reads (n .each-goes-on);
           used-is = λ h. absurd (h w);
-          refused-at = λ h. absurd (not-write r Refused w (λ z. omega arith) h);
+          refused-at = λ h. absurd (not-write (r .standing) Refused w (λ z. omega arith) h);
           calls-made = λ h. absurd (h w);
           lines-served = λ why.
               absurd
-              (⊎-elim (λ h. not-write r EndOfInput w (λ z. omega arith) h) (λ h. not-write r Refused w (λ z. omega arith) h) why);
-          are-bytes = came-bytes reads;
+              (⊎-elim (λ h. not-write (r .standing) EndOfInput w (λ z. omega arith) h) (λ h. not-write (r .standing) Refused w (λ z. omega arith) h) why);
+          are-bytes = all-bytes (came reads) (came-bytes reads);
           answers = answers (came reads);
         }
     go (inr e) =
@@ -254,9 +183,9 @@ meaning r n = go (n .served)
           end-of-input = m .at-end;
           at-the-end = λ h. m .ends;
           read-failed = λ h. m .fails;
-          byte-limit = λ h. omega (arith, m .limit h);
+          byte-limit = m .limit;
           a-reason = n .ends;
-          no-more-reads = no-more reads (n .each-goes-on);
+          no-more-reads = none-after reads (n .each-goes-on);
           used-is = λ h. m .used-is ∙ used-all (came reads) (atEnd reads);
           refused-at = λ h.
               let x = refused-where (came reads) (atEnd reads) (m .refused h) in
@@ -267,6 +196,6 @@ meaning r n = go (n .served)
               );
           calls-made = λ h. m .core-is ∙ all-answered [] 0 (came reads) (atEnd reads) .core-is;
           lines-served = λ why. whole-lines (came reads) (atEnd reads) (⊎-elim (λ h. inl (m .at-end h .0)) (λ h. inr (m .refused h)) why);
-          are-bytes = came-bytes reads;
+          are-bytes = all-bytes (came reads) (came-bytes reads);
           answers = answers (came reads);
         }

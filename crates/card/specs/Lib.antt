@@ -1,3 +1,3 @@
--- What the contracts of `card` cite: a round, and a run of the program (Program); then what a run means (Meaning). Assumes nothing.
+-- What the contracts of `card` cite: a round, and the program (Program); then what a run means (Meaning). Assumes nothing.
 pub mod Program
 pub mod Meaning

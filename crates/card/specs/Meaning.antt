@@ -1,40 +1,21 @@
 -- What a run of the program means, in plain facts: of what it ends with and of its reads, the latest first. Assumes nothing.
 use Prim.Native.Nat.{ℕ, _^_, _≤_}
 use mathlib.Core.Path.{_≡_}
-use mathlib.Core.Bool.{Bool, true, false}
+use mathlib.Core.Bool.{true, false}
 use mathlib.Core.List.{List, [], _∷_, _++_}
 use mathlib.Core.Logic.{_⊎_}
 use mathlib.Core.Option.{none, some}
-use lib.Dec.{eqb}
-use lib.IntN.{ℤ, pos, negsuc}
+use lib.IntN.{pos}
 use lib.ListN.{length}
+use Rattle.reads.specs.declared.Standing.the-variants.{GoesOn, EndOfInput, Refused, ReadFailed, WriteFailed, ByteLimit}
+use Rattle.reads.specs.Reads.{Read, brought, came, atEnd, hasFailed}
 use Rattle.turns.specs.State.{made}
 use Rattle.records.specs.Bytes.{AreBytes}
 use Rattle.records.specs.Rows.{Detail}
 use Rattle.lines.specs.Serve.{Run, serveOf, cardLines}
 use Rattle.lines.specs.Asked.{asked, sent}
 use Rattle.lines.specs.Answers.{Answers}
-use Rattle.card.specs.declared.Standing.the-variants.{GoesOn, EndOfInput, Refused, ReadFailed, WriteFailed, ByteLimit}
 use Rattle.card.specs.declared.Round.{Round}
-use Rattle.card.specs.Program.{Read, brought, came}
-
--- whether the latest read answered 0
-abbrev pub isZero : ℤ → Bool
-isZero (pos k) = eqb k 0
-isZero (negsuc k) = false
-
-abbrev pub atEnd : List Read → Bool
-atEnd [] = false
-atEnd (x ∷ before) = isZero (x .got)
-
--- whether the latest read answered below 0
-abbrev pub isBelow : ℤ → Bool
-isBelow (pos k) = false
-isBelow (negsuc k) = true
-
-abbrev pub hasFailed : List Read → Bool
-hasFailed [] = false
-hasFailed (x ∷ before) = isBelow (x .got)
 
 -- all bytes that came, served in one piece from the core before any call
 abbrev pub whole : List Read → Run

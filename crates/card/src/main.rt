@@ -4,33 +4,19 @@ use libc::STDERR_FILENO;
 use libc::STDIN_FILENO;
 use libc::STDOUT_FILENO;
 use lines::Served;
+use reads::Standing;
 use turns::Core;
 use turns::Refusal;
-ghost use Prim.Native.Nat.{_+_, _-_, _^_, _≤_, _<_};
+ghost use Prim.Native.Nat.{_+_, _^_, _≤_, _<_};
 ghost use mathlib.Core.Path.{_≡_};
-ghost use mathlib.Core.List.{_++_};
 ghost use mathlib.Core.Logic.{_⊎_};
-ghost use lib.ListN.{length, take, drop};
-ghost use lib.Seq.{slice};
+ghost use lib.ListN.{length, take};
+ghost use Rattle.reads.specs.declared.Standing.the-variants.{WriteFailed};
+ghost use Rattle.reads.specs.Reads.{Bytes, toServe, lastBytes};
+ghost use Rattle.reads.specs.Program.{Ran};
 ghost use Rattle.turns.specs.State.{ValidCore};
-ghost use Rattle.records.specs.Bytes.{AreBytes};
 ghost use Rattle.lines.specs.Text.{longest};
-ghost use Rattle.card.specs.declared.Standing.the-variants.{WriteFailed};
-ghost use Rattle.card.specs.Program.{standing, servedPart, toServe, roundOf, lastBytes, Ran};
-
-// A proved loop has to end, and nothing says that the input does: the program ends where it has used so many bytes,
-// which no run does.
-const MOST_BYTES: u64 = 18446744073709000000;
-
-// Whether the program goes on, or why it ends.
-enum Standing {
-    GoesOn,
-    EndOfInput,
-    Refused,
-    ReadFailed,
-    WriteFailed,
-    ByteLimit,
-}
+ghost use Rattle.card.specs.Program.{servedPart, roundOf, program};
 
 // The core, the place of the first byte that waits for the rest of its record, how many wait, how the program
 // stands, and, where it is refused, with which refusal.
@@ -42,25 +28,6 @@ struct Round {
     refusal: Refusal,
 }
 
-// "After 20, 21 or 22 the program stops"; "At the end of input the program asks for no further record."
-fn standing_of(written: bool, stopped: bool, last: bool, offset: u64) -> Standing
-    ensures { λ r. ⌜ r ≡ standing written stopped last offset ⌝ }
-{
-    if !written {
-        return Standing::WriteFailed;
-    }
-    if stopped {
-        return Standing::Refused;
-    }
-    if last {
-        return Standing::EndOfInput;
-    }
-    if offset >= MOST_BYTES {
-        return Standing::ByteLimit;
-    }
-    Standing::GoesOn
-}
-
 // `sizing` has its own: a library's function has to promise its result, and no contract says whether a write works.
 fn is_written(lines: &[u8]) -> bool {
     let ok = io::write_all(STDOUT_FILENO, lines);
@@ -70,19 +37,8 @@ fn is_written(lines: &[u8]) -> bool {
     ok
 }
 
-// Moves the bytes from `from` to `end` to the front.
-fn move_rest(input: &mut [u8], from: usize, end: usize)
-    requires { ⌜ (from ≤ end) × (end ≤ length (now input)) ⌝ }
-    ensures { λ _. ⌜ now (input .exit) ≡ slice from end (now (input .entry)) ++ drop (end - from) (now (input .entry)) ⌝ }
-{
-    let mut k = from;
-    while k < end {
-        input[k - from] = input[k];
-        k += 1;
-    }
-}
-
-// Writes the line of every record before `end` that can be answered, in as many goes as the room for lines asks for.
+// Writes the line of every record before `end` that can be answered, in as many goes as the room for lines asks for. "After
+// 20, 21 or 22 the program stops"; "At the end of input the program asks for no further record."
 fn answered(core: Core, offset: u64, input: &[u8], end: usize, last: bool, out: &mut [u8]) -> Round
     requires { ⌜ ValidCore core × (end ≤ length (now input)) × (longest ≤ length (now out)) × (offset + end < 2 ^ 64) ⌝ }
     ensures { λ r. ⌜ ValidCore (r .core) × (r .held ≤ end) ⌝ }
@@ -113,7 +69,7 @@ fn answered(core: Core, offset: u64, input: &[u8], end: usize, last: bool, out: 
                 core,
                 offset,
                 held,
-                standing: standing_of(ok, served.stopped, last, offset),
+                standing: reads::standing_of(ok, served.stopped, last, offset),
                 refusal,
             };
         }
@@ -131,8 +87,8 @@ fn one_round(
     out: &mut [u8],
 ) -> Round
     requires { ⌜ ValidCore core × (held < length (now input)) × (longest ≤ length (now out)) × (offset + length (now input) < 2 ^ 64) ⌝ }
-    ensures { λ r. ⌜ ValidCore (r .core) × (take (r .held) (now (input .exit)) ≡ lastBytes (r .held) (toServe (now (input .entry)) held got)) × AreBytes (now (input .entry)) ⌝ }
-    ensures { λ r. ⌜ (r .standing ≡ WriteFailed) ⊎ (r ≡ roundOf core offset (now (input .entry)) held got) ⌝ }
+    ensures { λ r. ⌜ ValidCore (r .core) × (take (r .held) (now (input .exit)) ≡ lastBytes (r .held) (toServe (now (input .entry)) held got)) × Bytes (now (input .entry)) ⌝ }
+    ensures { λ r. ⌜ (r .standing ≡ WriteFailed) ⊎ (r ≡ roundOf core offset held (toServe (now (input .entry)) held got) got) ⌝ }
 {
     if got < 0 {
         io::write_all(STDERR_FILENO, b"card: a read failed\n");
@@ -152,14 +108,14 @@ fn one_round(
     let end = held + n;
     let r = answered(core, offset, input, end, last, out);
     let from = end - r.held;
-    move_rest(input, from, end);
+    reads::move_rest(input, from, end);
     r
 }
 
 // Reads and serves until there is a reason to end, and hands it back with what was served. The loop carries the round:
 // a local for its core would cost a copy of the table.
 fn run() -> Round
-    ensures { λ r. ⌜ ValidCore (r .core) × Ran r ⌝ }
+    ensures { λ r. ⌜ ValidCore (r .core) × Ran program r ⌝ }
 {
     let mut input = io::large_buffer();
     let mut out = io::large_buffer();

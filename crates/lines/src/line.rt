@@ -1,5 +1,6 @@
 // The line of a reply: `ok TIME RUN USABLE TIMER BROUGHT` or `no NUMBER DETAIL`, and a newline.
-use text::put_number;
+use text::put_end;
+use text::put_field;
 use turns::Holder;
 use turns::Refusal;
 use turns::Reply;
@@ -7,22 +8,13 @@ use turns::Report;
 use turns::Timer;
 ghost use Prim.Native.Nat.{_+_, _≤_};
 ghost use mathlib.Core.Path.{_≡_};
-ghost use mathlib.Core.List.{[], _∷_};
+ghost use mathlib.Core.List.{_∷_};
 ghost use lib.ListN.{length};
-ghost use Rattle.text.specs.Text.{decimal, over, Put};
+ghost use Rattle.text.specs.Text.{over, Put};
 ghost use Rattle.lines.specs.Text.{dash, holderText, timerText, reportText, refusalText, lineOf, lineIn, longest};
 
 // No line has more bytes: two letters, five numbers of at most 20 digits, each behind a space, and a newline.
 pub const LONGEST_LINE: usize = 108;
-
-// A space and a number.
-fn put_field(out: &mut [u8], at: usize, n: u64) -> usize
-    requires { ⌜ at + 21 ≤ length (now out) ⌝ }
-    ensures { λ r. ⌜ Put (now (out .entry)) at (32 ∷ decimal n) (now (out .exit)) r × (r ≤ at + 21) ⌝ }
-{
-    out[at] = b' ';
-    put_number(out, at + 1, n)
-}
 
 // A space and `-`, for idle and for no timer.
 fn put_none(out: &mut [u8], at: usize) -> usize
@@ -52,14 +44,6 @@ fn put_timer(out: &mut [u8], at: usize, timer: Timer) -> usize
         return put_none(out, at);
     };
     put_field(out, at, moment.ticks())
-}
-
-fn put_end(out: &mut [u8], at: usize) -> usize
-    requires { ⌜ at + 1 ≤ length (now out) ⌝ }
-    ensures { λ r. ⌜ Put (now (out .entry)) at (10 ∷ []) (now (out .exit)) r × (r ≤ at + 1) ⌝ }
-{
-    out[at] = b'\n';
-    at + 1
 }
 
 fn put_report(out: &mut [u8], at: usize, report: Report) -> usize

@@ -1,45 +1,27 @@
 -- A number that is kept and the number that was written are alike: equal, or both above every limit, so that each row treats them alike.
 -- Assumes nothing.
-use Prim.Native.Nat.{ℕ, _+_, _-_, _*_, _≤_, _<_}
+use Prim.Native.Nat.{ℕ, _≤_, _<_, min}
 use mathlib.Core.Path.{_≡_, refl}
-use mathlib.Core.Bool.{Bool, true, false, cond, not, _&&_, _||_, or-true}
-use mathlib.Core.List.{List, [], _∷_}
+use mathlib.Core.Bool.{Bool, true, false, not, _&&_, _||_, or-true}
 use mathlib.Core.Logic.{_⊎_, inl, inr}
 use native.Mathlib.Omega.{arith}
 use lib.Dec.{leb, ltb}
-use borrow.Author.Tests.{lt-ltb, lt-leb, ltb-false, leb-true}
+use borrow.Author.Tests.{lt-ltb, lt-leb, leb-true, leb-false}
 use Rattle.model.proofs.Tests.{and-right, and-both}
 use Rattle.model.specs.Reply.{Reply}
 use Rattle.model.specs.Rows.{within, inRange, row, supplyReply}
-use Rattle.queries.specs.Reading.{figured}
-use Rattle.text.specs.Text.{numberFrom}
-use Rattle.queries.specs.Meaning.{isDigit, allDigits}
-use Rattle.queries.proofs.Readings.{capped, digitStep}
 
 -- equal, or both above m
 abbrev pub Alike : ℕ → ℕ → ℕ → Type 0
 Alike m a b = (a ≡ b) ⊎ ((m < a) × (m < b))
 
-alike-digit : (n m b : ℕ) → isDigit b ≡ true → Alike 3000 n m → Alike 3000 (digitStep n b) (m * 10 + (b - 48))
-unfolding figured
-alike-digit n m b e a = rw e (go a (ltb n 400000000) refl)
+-- a number that is kept: itself, or 9,999 where it is above that
+pub alike-kept : (n : ℕ) → Alike 3000 (min n 9999) n
+alike-kept n = go (leb n 9999) refl
   where
-    go : Alike 3000 n m → (t : Bool) → ltb n 400000000 ≡ t → Alike 3000 (cond t (n * 10 + (b - 48)) n) (m * 10 + (b - 48))
-    go (inl q) true p = inl (rw q)
-    go (inl q) false p = inr (omega (arith, ltb-false n 400000000 p))
-    go (inr q) true p = inr (omega (arith, q .0, q .1))
-    go (inr q) false p = inr (omega (arith, q .0, q .1))
-
-pub alike-number : (f : List ℕ) (n m : ℕ) → allDigits f ≡ true → Alike 3000 n m → Alike 3000 (capped n f) (numberFrom m f)
-alike-number [] n m e a = a
-alike-number (b ∷ f) n m e a = go (isDigit b) refl e (alike-number f (digitStep n b) (m * 10 + (b - 48)))
-  where
-    go : (t : Bool) → isDigit b ≡ t → (t && allDigits f) ≡ true
-        → (allDigits f ≡ true → Alike 3000 (digitStep n b) (m * 10 + (b - 48))
-        → Alike 3000 (capped (digitStep n b) f) (numberFrom (m * 10 + (b - 48)) f))
-        → Alike 3000 (capped (digitStep n b) f) (numberFrom (m * 10 + (b - 48)) f)
-    go true p q r = r q (alike-digit n m b p a)
-    go false p q r = let z : _≡_ {A = ℕ} 0 1 = cc in absurd (omega arith)
+    go : (t : Bool) → leb n 9999 ≡ t → Alike 3000 (min n 9999) n
+    go true e = inl (omega (arith, leb-true n 9999 e))
+    go false e = inr (omega (arith, leb-false n 9999 e))
 
 -- the rows on P and B, and on t, see no difference
 far-outside : (a n : ℕ) → n ≤ 3000 → 3000 < a → within a n ≡ false

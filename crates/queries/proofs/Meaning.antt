@@ -1,171 +1,124 @@
--- A line that is fed byte by byte is answered what it means as a whole. Assumes that its bytes are bytes, and that they are fewer
--- than the largest count.
-use Prim.Native.Nat.{ℕ, zero, suc, _+_, _-_, _^_, _≤_, _<_}
-use mathlib.Core.Path.{_≡_, refl, ap, sym, _∙_}
-use mathlib.Core.Bool.{Bool, true, false, cond, not, _&&_}
-use mathlib.Core.List.{List, [], _∷_, map, foldl, flatten}
-use mathlib.Core.Logic.{inl}
+-- What the parts of the code answer is what the line means. Assumes nothing.
+use Prim.Native.Nat.{ℕ, zero, suc, _+_, _≤_, _<_}
+use mathlib.Core.Path.{_≡_, refl, ap, sym, _∙_, subst}
+use mathlib.Core.Bool.{Bool, true, false, cond, not, _||_}
+use mathlib.Core.List.{List, [], _∷_, map}
 use native.Mathlib.Omega.{arith}
-use lib.Dec.{ltb, eqb}
-use lib.ListN.{length, getD, drop, length-drop, length-map, List·getD-map}
-use lib.Seq.{getD-drop}
-use borrow.Author.Tests.{eqb-true}
+use native.Mathlib.Nat.{zero-add}
+use lib.Dec.{leb, ltb, eqb}
+use lib.ListN.{length, take, drop}
+use borrow.Author.Tests.{eq-eqb, ne-eqb, eqb-true, eqb-false, lt-ltb, le-ltb, leb-false}
+use Rattle.text.specs.Text.{number, Put}
+use Rattle.text.proofs.Writing.{put-over}
+use Rattle.model.specs.Asked.{replyTo}
 use Rattle.queries.specs.declared.ask.Word.{Word}
 use Rattle.queries.specs.declared.ask.Word.the-variants.{Supply, Demand, Check, Least, Best}
 use Rattle.queries.specs.declared.ask.Spoken.{Spoken}
-use Rattle.queries.specs.declared.ask.Spoken.the-variants.{Known, Unknown}
-use Rattle.queries.specs.declared.line.Line.{Line}
-use Rattle.text.specs.Text.{number}
-use Rattle.queries.specs.Text.{said, badField, lineOf, Written}
-use Rattle.queries.specs.Reading.{startLine, fedBytes}
-use Rattle.queries.specs.Answer.{most, firstBad, replyOf, wordAnswer, answerOf}
-use Rattle.queries.specs.Meaning.{heads, firstBadField, isEmpty, trimmed, untilSpace, fieldsOf, spokenOf}
-use Rattle.queries.specs.Meaning.{allDigits, everyOther, replyWith, fieldsMean, bytesMean, lineMeans}
-use Rattle.queries.proofs.Asking.{heads-stand}
-use Rattle.queries.proofs.Steps.{fed-append}
-use Rattle.queries.proofs.Readings.{firstNoNumber, capped, readingOf, first-no-number}
-use Rattle.queries.proofs.Kept.{Kept}
-use Rattle.queries.proofs.Lines.{Read, atEnd, heldAfter, fields-few, reads-line}
-use Rattle.queries.proofs.FirstBad.{field-first}
-use Rattle.queries.proofs.Words.{Bytes, spoken-same, not-blank}
-use Rattle.queries.proofs.Alike.{Alike, alike-number, supply-alike}
-use Rattle.queries.proofs.AlikeTasks.{Alikes, demand-alike, check-alike, least-alike, best-alike}
-use Rattle.queries.proofs.Tasks.{every-at, every-length, values, reply-kept}
+use Rattle.queries.specs.declared.ask.Spoken.the-variants.{Known}
+use Rattle.queries.specs.Text.{said, badField, badLine, lineOf, longest, answerIn, Written}
+use Rattle.queries.specs.Meaning.{until, behind, spokenOf, isNumber, heads, tooMany, firstBad, asks, fieldsMean, bytesMean, trimmed, lineMeans}
+use Rattle.queries.specs.Private.{piecesFrom}
+use Rattle.queries.proofs.Pieces.{until-few, until-take, last-piece, next-piece}
 
-bytes-until : (t : List ℕ) → Bytes t → Bytes (untilSpace t)
-bytes-until [] b = tt
-bytes-until (x ∷ t) b = go (eqb x 32) (bytes-until t (b .1))
-  where
-    go : (s : Bool) → Bytes (untilSpace t) → Bytes (cond s [] (x ∷ untilSpace t))
-    go true r = tt
-    go false r = (b .0, r)
+-- a query by its fields
+module _ (w : Word) (fs : List (List ℕ)) where
+  pub bad-means : (bad : ℕ) → bad ≡ firstBad w 1 fs → (bad ≡ 0 → ⊥) → said badField (bad ∷ []) ≡ fieldsMean (Known w) fs
+  bad-means bad e some = rw (← e, ne-eqb bad 0 some)
 
-bytes-trimmed : (t : List ℕ) → Bytes t → Bytes (trimmed t)
-bytes-trimmed [] b = tt
-bytes-trimmed (x ∷ t) b = go (eqb x 13 && isEmpty t) (bytes-trimmed t (b .1))
-  where
-    go : (s : Bool) → Bytes (trimmed t) → Bytes (cond s [] (x ∷ trimmed t))
-    go true r = tt
-    go false r = (b .0, r)
+  pub good-means : (text : List ℕ) → firstBad w 1 fs ≡ 0 → text ≡ lineOf (replyTo (asks w (map number fs))) → text ≡ fieldsMean (Known w) fs
+  good-means text none e = e ∙ rw (eq-eqb (firstBad w 1 fs) 0 none)
 
-trimmed-few : (t : List ℕ) → length (trimmed t) ≤ length t
-trimmed-few [] = omega arith
-trimmed-few (x ∷ t) = go (eqb x 13 && isEmpty t) (trimmed-few t)
-  where
-    go : (s : Bool) → length (trimmed t) ≤ length t → length (cond s [] (x ∷ trimmed t)) ≤ suc (length t)
-    go true r = omega arith
-    go false r = omega arith
-
--- where no field is bad, each kept number is like the one that was written
-alike-at : (k : ℕ) (fs : List (List ℕ)) → firstNoNumber (suc k) fs ≡ 0 → (i : ℕ)
-    → Alike 3000 (capped 0 (getD fs i [])) (number (getD fs i []))
-alike-at k [] e i = inl refl
-alike-at k (f ∷ fs) e i = go (isEmpty f) (allDigits f) refl e (alike-at (suc k) fs) i
-  where
-    go : (s t : Bool) → allDigits f ≡ t → cond (not s && t) (firstNoNumber (suc (suc k)) fs) (suc k) ≡ 0
-        → (firstNoNumber (suc (suc k)) fs ≡ 0 → (i : ℕ) → Alike 3000 (capped 0 (getD fs i [])) (number (getD fs i [])))
-        → (i : ℕ) → Alike 3000 (capped 0 (getD (f ∷ fs) i [])) (number (getD (f ∷ fs) i []))
-    go false true p q r zero = alike-number f 0 0 p (inl refl)
-    go false true p q r (suc i) = r q i
-    go false false p q r i = absurd (omega arith)
-    go true t p q r i = absurd (omega arith)
-
-module _ (fs : List (List ℕ)) (z : firstNoNumber 1 fs ≡ 0) where
-  numbers-alike : Alikes (values fs) (map number fs)
-  numbers-alike = record {
-    sizes = length-map fs (capped 0) ∙ sym (length-map fs number);
-    each = λ i. rw (List·getD-map (capped 0) fs i [], List·getD-map number fs i []) (alike-at 0 fs z i);
-  }
-
-drop-alike : (h : ℕ) (t : Bool) (xs ys : List ℕ) → Alikes xs ys → Alikes (everyOther t (drop h xs)) (everyOther t (drop h ys))
-drop-alike h t xs ys a = record {
-  sizes = every-length t (drop h xs) ∙ rw (length-drop h xs, a .sizes, ← length-drop h ys) (sym (every-length t (drop h ys)));
-  each = λ i. rw (every-at t (drop h xs) i, every-at t (drop h ys) i, getD-drop h xs, getD-drop h ys) (a .each _);
-}
-
-replies-alike : (w : Word) (xs ys : List ℕ) → Alikes xs ys → replyWith w xs ≡ replyWith w ys
-replies-alike Supply xs ys a = supply-alike _ _ _ _ _ _ (a .each 0) (a .each 1) (a .each 2)
-replies-alike Demand xs ys a =
-    demand-alike _ _ _ _ (drop-alike 2 true xs ys a) (drop-alike 2 false xs ys a) _ _ (a .each 0) _ _ (a .each 1)
-replies-alike Check xs ys a = check-alike _ _ _ _ (drop-alike 2 true xs ys a) (drop-alike 2 false xs ys a) _ _ (a .each 0) _ _ (a .each 1)
-replies-alike Least xs ys a = least-alike _ _ _ _ (drop-alike 1 true xs ys a) (drop-alike 1 false xs ys a) _ _ (a .each 0)
-replies-alike Best xs ys a = best-alike _ _ _ _ (drop-alike 1 true xs ys a) (drop-alike 1 false xs ys a) _ _ (a .each 0)
-
--- no field is bad only where each is a string of digits
-none-bad : (h m n bad : ℕ) → firstBad h m n bad ≡ 0 → bad ≡ 0
+-- a query without a field lacks the first one
+pub lone-means : (w : Word) → said badField (1 ∷ []) ≡ fieldsMean (Known w) []
 unfolding firstBad
-none-bad h m n bad e = go (eqb bad 0) (ltb m bad) refl e
+lone-means Supply = refl
+lone-means Demand = refl
+lone-means Check = refl
+lone-means Least = refl
+lone-means Best = refl
+
+-- where no field is bad, the word's own fields are there
+fields-there : (w : Word) (k : ℕ) (fs : List (List ℕ)) → firstBad w (suc k) fs ≡ 0 → heads w ≤ k + length fs
+unfolding firstBad
+fields-there w k [] e = go (leb (suc k) (heads w)) refl e
   where
-    go : (a d : Bool) → eqb bad 0 ≡ a → cond a (cond (ltb n h) (n + 1) (cond (ltb m n) (m + 1) 0)) (cond d (m + 1) bad) ≡ 0 → bad ≡ 0
-    go true d p q = eqb-true bad 0 p
-    go false true p q = absurd (omega arith)
-    go false false p q = q
+    go : (t : Bool) → leb (suc k) (heads w) ≡ t → cond t (suc k) 0 ≡ 0 → heads w ≤ k + 0
+    go true t h = absurd (omega arith)
+    go false t h = omega (arith, leb-false (suc k) (heads w) t)
+fields-there w k (f ∷ fs) e = go (tooMany w (suc k) || not (isNumber f)) e (fields-there w (suc k) fs)
+  where
+    go : (t : Bool) → cond t (suc k) (firstBad w (suc (suc k)) fs) ≡ 0 → (firstBad w (suc (suc k)) fs ≡ 0 → heads w ≤ suc k + length fs)
+        → heads w ≤ k + suc (length fs)
+    go true h r = absurd (omega arith)
+    go false h r = omega (arith, r h)
 
--- the answer of what was read, by the word
-module _ (t : List ℕ) (odd even : List ℕ) (k : Kept (fieldsOf t) odd even) (few : length (fieldsOf t) ≤ 2 ^ 64 - 1) where
-  abbrev answer : Spoken → List ℕ
-  answer s = wordAnswer s (record { odd = odd; even = even; reading = readingOf t })
+pub heads-there : (w : Word) (fs : List (List ℕ)) → firstBad w 1 fs ≡ 0 → heads w ≤ length fs
+heads-there w fs e = omega (arith, fields-there w 0 fs e)
 
-  known : (w : Word) → answer (Known w) ≡ fieldsMean (Known w) (fieldsOf t)
-  known w =
-      rw (first-no-number (untilSpace t) (fieldsOf t), field-first w (fieldsOf t) few) (go (eqb (firstBadField w (fieldsOf t)) 0) refl)
+-- a line whose word ends at `end`
+module _ (line : List ℕ) (end : ℕ) (some : 0 < length line) (e : end ≡ 0 + length (until 32 (drop 0 line))) where
+  pub word-inside : end ≤ length line
+  word-inside = omega (arith, until-few 32 line)
+
+  pub next-inside : eqb end (length line) ≡ false → end + 1 ≤ length line
+  next-inside on = omega (arith, word-inside, eqb-false end (length line) on)
+
+  -- by what the word is, and by whether a field stands behind it
+  module _ (spoken s : Spoken) (text : List ℕ) (w : spoken ≡ spokenOf (take end line)) (is : spoken ≡ s) where
+    line-means : fieldsMean s (behind 32 line) ≡ bytesMean line
+    line-means =
+        let n : end ≡ length (until 32 line) = omega arith in
+        ap (λ (x : Spoken). fieldsMean x (behind 32 line))
+        (sym is ∙ w ∙ ap (λ (m : ℕ). spokenOf (take m line)) n ∙ ap spokenOf (until-take 32 line))
+        ∙ go line some
+      where
+        go : (l : List ℕ) → 0 < length l → fieldsMean (spokenOf (until 32 l)) (behind 32 l) ≡ bytesMean l
+        go [] h = absurd (omega arith)
+        go (x ∷ l) h = refl
+
+    pub any-means : text ≡ fieldsMean s (behind 32 line) → text ≡ bytesMean line
+    any-means t = t ∙ line-means
+
+    pub alone-means : eqb end (length line) ≡ true → text ≡ fieldsMean s [] → text ≡ bytesMean line
+    alone-means at t =
+        t ∙ ap (fieldsMean s) (sym (last-piece 32 line 0 end (omega arith) e (eqb-true end (length line) at))) ∙ line-means
+
+    pub more-means : eqb end (length line) ≡ false → text ≡ fieldsMean s (piecesFrom 32 (end + 1) line) → text ≡ bytesMean line
+    more-means on t =
+        t ∙ ap (fieldsMean s) (sym (next-piece 32 line 0 end (omega arith) e (eqb-false end (length line) on))) ∙ line-means
+
+-- what is written: nothing, or the answer where it has room
+module _ (text out : List ℕ) where
+  pub written-none : text ≡ [] → Written (answerIn text out) out out 0
+  written-none e = go (ltb (length out) longest)
     where
-      go : (s : Bool) → eqb (firstBadField w (fieldsOf t)) 0 ≡ s
-          → cond s (lineOf (replyOf w (heads w) (length (fieldsOf t) - heads w) odd even))
-          (said badField (firstBadField w (fieldsOf t) ∷ []))
-          ≡ cond s (lineOf (replyWith w (map number (fieldsOf t)))) (said badField (firstBadField w (fieldsOf t) ∷ []))
-      go false e = refl
-      go true e =
-          let z = field-first w (fieldsOf t) few ∙ eqb-true (firstBadField w (fieldsOf t)) 0 e in
-          ap lineOf (reply-kept (fieldsOf t) odd even k w
-          (heads-stand (heads w) (most w) (length (fieldsOf t)) (firstNoNumber 1 (fieldsOf t)) z)
-          ∙ replies-alike w (values (fieldsOf t)) (map number (fieldsOf t))
-          (numbers-alike (fieldsOf t) (none-bad (heads w) (most w) (length (fieldsOf t)) (firstNoNumber 1 (fieldsOf t)) z)))
+      go : (t : Bool) → Written (cond t [] text) out out 0
+      go true = record { count = refl; whole = refl }
+      go false = rw e (record { count = refl; whole = refl })
 
-  spoken : (s : Spoken) → answer s ≡ fieldsMean s (fieldsOf t)
-  spoken Unknown = refl
-  spoken (Known w) = known w
+  pub written-full : length out < longest → Written (answerIn text out) out out 0
+  written-full full = rw (lt-ltb (length out) longest full) (record { count = refl; whole = refl })
 
-  -- a carriage return that is held back at the end is left out of account
-  held : (h : Bool) (s : Spoken) → wordAnswer s (record { odd = odd; even = even; reading = atEnd h t }) ≡ answer s
-  held false s = refl
-  held true Unknown = refl
-  held true (Known w) = refl
+  pub written-put : (xs out′ : List ℕ) (n : ℕ) → longest ≤ length out → xs ≡ text → Put out 0 xs out′ n × (n ≤ longest)
+      → Written (answerIn text out) out out′ n
+  written-put xs out′ n room e p =
+      rw (le-ltb (length out) longest room, ← e)
+      (record { count = p .0 .behind ∙ zero-add (length xs); whole = put-over (omega (arith, p .1)) (p .0) })
 
-read-means : (h : Bool) (t : List ℕ) (l : Line) → Bytes t → length (fieldsOf t) ≤ 2 ^ 64 - 1 → Read h t l → answerOf l ≡ bytesMean t
-unfolding answerOf
-read-means h t l b few r =
-    ap (λ x. answerOf (record { odd = l .odd; even = l .even; reading = x })) (r .reading-is) ∙ go h t b few (r .kept)
-  where
-    go : (h : Bool) (t : List ℕ) → Bytes t → length (fieldsOf t) ≤ 2 ^ 64 - 1 → Kept (fieldsOf t) (l .odd) (l .even)
-        → answerOf (record { odd = l .odd; even = l .even; reading = atEnd h t }) ≡ bytesMean t
-    go false [] b few k = refl
-    go true [] b few k = refl
-    go false (x ∷ t) b few k =
-        rw (not-blank x t, spoken-same (untilSpace (x ∷ t)) (bytes-until (x ∷ t) b))
-        (spoken (x ∷ t) (l .odd) (l .even) k few (spokenOf (untilSpace (x ∷ t))))
-    go true (x ∷ t) b few k =
-        rw (not-blank x t, spoken-same (untilSpace (x ∷ t)) (bytes-until (x ∷ t) b))
-        (held (x ∷ t) (l .odd) (l .even) k few true (spokenOf (untilSpace (x ∷ t)))
-        ∙ spoken (x ∷ t) (l .odd) (l .even) k few (spokenOf (untilSpace (x ∷ t))))
-
-pub answer-means : (line : List ℕ) → Bytes line → length line + 2 < 2 ^ 64 - 1 → answerOf (fedBytes startLine line) ≡ lineMeans line
+-- a line that is too long, and one that is not
+pub long-means : (l : List ℕ) → 65535 < length l → said badLine [] ≡ lineMeans l
 unfolding lineMeans
-answer-means line b few =
-    read-means (heldAfter false line) (trimmed line) (fedBytes startLine line) (bytes-trimmed line b)
-    (omega (arith, fields-few (trimmed line), trimmed-few line)) (reads-line line few)
+long-means l long = rw (lt-ltb 65535 (length l) long)
 
-fed-flatten : (parts : List (List ℕ)) (l : Line) → foldl fedBytes l parts ≡ fedBytes l (flatten parts)
-unfolding fedBytes flatten
-fed-flatten [] l = refl
-fed-flatten (a ∷ parts) l = fed-flatten parts (fedBytes l a) ∙ sym (fed-append l a (flatten parts))
+pub long-written : (l out : List ℕ) {out′ : List ℕ} {n : ℕ} → 65535 < length l → Written (answerIn (said badLine []) out) out out′ n
+    → Written (answerIn (lineMeans l) out) out out′ n
+long-written l out {out′} {n} long w =
+    subst (λ (text : List ℕ). Written (answerIn text out) out out′ n) (long-means l long) w
 
--- in whatever parts a line is fed; proofs/Inputs.antt has the same of an input
-pub fed-parts-mean : (parts : List (List ℕ)) → Bytes (flatten parts) → length (flatten parts) + 2 < 2 ^ 64 - 1
-    → answerOf (foldl fedBytes startLine parts) ≡ lineMeans (flatten parts)
-fed-parts-mean parts h few = ap answerOf (fed-flatten parts startLine) ∙ answer-means (flatten parts) h few
+pub short-means : (l : List ℕ) → length l ≤ 65535 → bytesMean (trimmed l) ≡ lineMeans l
+unfolding lineMeans
+short-means l short = rw (le-ltb 65535 (length l) short)
 
--- a whole line at once
-pub whole-means : (line out out′ : List ℕ) (n : ℕ) (s l : Line) → s ≡ startLine → l ≡ fedBytes s line → Bytes line → length line < 2 ^ 63
-    → Written (answerOf l) out out′ n → Written (lineMeans line) out out′ n
-whole-means line out out′ n s l es el b few w = rw (← answer-means line b (omega arith), ← es, ← el) w
+pub empty-means : (l : List ℕ) → length l ≡ 0 → bytesMean l ≡ []
+empty-means [] e = refl
+empty-means (x ∷ l) e = absurd (omega arith)

@@ -1,16 +1,27 @@
-// What a line asks: its word, its first bad field, and the question it puts to `shares`.
-use crate::answer::Answer;
-use crate::answer::of_budget;
-use crate::answer::of_interface;
-use crate::answer::of_ticks;
-use crate::answer::of_verdict;
-use crate::line::Line;
-use crate::line::PAIRS;
+// What a line asks: its word, its fields, and the question that it puts to `shares`.
+use crate::answers::Answer;
+use crate::answers::Head;
+use crate::answers::bad_field;
+use crate::answers::of_budget;
+use crate::answers::of_interface;
+use crate::answers::of_ticks;
+use crate::answers::of_verdict;
+use crate::answers::text_alone;
+use crate::field::Number;
+use crate::field::find;
+use crate::field::is_same;
+use crate::field::number_of;
 ghost use mathlib.Core.Path.{_≡_};
-ghost use Prim.Native.Nat.{_+_, _≤_, _<_};
-ghost use Rattle.queries.specs.Text.{textOf, lineOf};
-ghost use Rattle.queries.specs.Answer.{firstBad, most as mostOf, wordOf, periodsOf, costsOf, replyOf, isBlank, answerOf};
-ghost use Rattle.queries.specs.Meaning.{wordReply, heads as headsOf};
+ghost use mathlib.Core.List.{[]};
+ghost use Prim.Native.Nat.{_+_, _-_, _^_, _≤_, _<_};
+ghost use lib.ListN.{length};
+ghost use Rattle.model.specs.Asked.{Work, replyTo};
+ghost use Rattle.queries.specs.declared.ask.Spoken.the-variants.{Known};
+ghost use Rattle.queries.specs.Text.{lineOf};
+ghost use Rattle.queries.specs.Meaning.{spokenOf, heads as headsOf, tooMany, firstBad, question, fieldsMean, bytesMean};
+ghost use Rattle.queries.specs.Private.{textOf, keptAt, FieldsAre, piecesFrom, periodsOf, costsOf, EveryOther, Answers};
+
+const SPACE: u8 = b' ';
 
 pub(crate) enum Word {
     Supply,
@@ -22,37 +33,30 @@ pub(crate) enum Word {
 
 pub(crate) enum Spoken {
     Known(Word),
+    Help,
     Unknown,
 }
 
-// The words as `Reading` has them.
-const SUPPLY: u64 = 0x01_73_75_70_70_6c_79;
-
-const DEMAND: u64 = 0x01_64_65_6d_61_6e_64;
-
-const CHECK: u64 = 0x01_63_68_65_63_6b;
-
-const LEAST: u64 = 0x01_6c_65_61_73_74;
-
-const BEST: u64 = 0x01_62_65_73_74;
-
-fn word_of(word: u64) -> Spoken
-    ensures { λ r. ⌜ r ≡ wordOf word ⌝ }
+fn word_of(word: &[u8]) -> Spoken
+    ensures { λ r. ⌜ r ≡ spokenOf (now (word .entry)) ⌝ }
 {
-    if word == SUPPLY {
+    if is_same(word, b"supply") {
         return Spoken::Known(Word::Supply);
     }
-    if word == DEMAND {
+    if is_same(word, b"demand") {
         return Spoken::Known(Word::Demand);
     }
-    if word == CHECK {
+    if is_same(word, b"check") {
         return Spoken::Known(Word::Check);
     }
-    if word == LEAST {
+    if is_same(word, b"least") {
         return Spoken::Known(Word::Least);
     }
-    if word == BEST {
+    if is_same(word, b"best") {
         return Spoken::Known(Word::Best);
+    }
+    if is_same(word, b"help") {
+        return Spoken::Help;
     }
     Spoken::Unknown
 }
@@ -70,37 +74,102 @@ fn heads(word: Word) -> usize
     }
 }
 
-// And at the most.
-fn most(word: Word) -> usize
-    ensures { λ r. ⌜ r ≡ mostOf word ⌝ }
+fn is_too_many(word: Word, k: usize) -> bool
+    ensures { λ r. ⌜ r ≡ tooMany word k ⌝ }
 {
     match word {
-        Word::Supply => 3,
-        Word::Demand => usize::MAX,
-        Word::Check => usize::MAX,
-        Word::Least => usize::MAX,
-        Word::Best => usize::MAX,
+        Word::Supply => 3 < k,
+        Word::Demand => false,
+        Word::Check => false,
+        Word::Least => false,
+        Word::Best => false,
     }
 }
 
-// The first field that is missing, too many or no digit string; 0 where there is none.
-fn first_bad(heads: usize, most: usize, count: usize, bad: usize) -> usize
-    requires { ⌜ heads ≤ 3 ⌝ }
-    ensures { λ r. ⌜ r ≡ firstBad heads most count bad ⌝ }
+// The numbers of the first fields are kept: three fields and 17 tasks, too many already, are 37.
+const KEPT: usize = 37;
+
+// How many fields there are, the numbers of the first ones, and the first bad field; where there is one, the rest says nothing.
+struct Fields {
+    numbers: [u32; KEPT],
+    count: usize,
+    bad: usize,
+}
+
+fn keep(numbers: &mut [u32; KEPT], at: usize, n: u32)
+    ensures { λ _. ⌜ now (numbers .exit) ≡ keptAt (now (numbers .entry)) at n ⌝ }
 {
-    if bad == 0 {
-        if count < heads {
-            return count + 1;
-        }
-        return if most < count { most + 1 } else { 0 };
+    if at < KEPT {
+        numbers[at] = n;
     }
-    if most < bad { most + 1 } else { bad }
+}
+
+// The place of the first missing field behind `count` fields; 0 where none is missing.
+fn missing(word: Word, count: usize) -> usize
+    requires { ⌜ count < 2 ^ 64 - 1 ⌝ }
+    ensures { λ r. ⌜ r ≡ firstBad word (count + 1) [] ⌝ }
+{
+    let k = count + 1;
+    if k <= heads(word) { k } else { 0 }
+}
+
+// The fields of a line from the place where the first of them begins.
+fn fields_of(word: Word, line: &[u8], start: usize) -> Fields
+    requires { ⌜ start ≤ length (now line) ⌝ }
+    ensures { λ r. ⌜ FieldsAre word (piecesFrom 32 start (now (line .entry))) r ⌝ }
+{
+    let mut numbers = [0u32; KEPT];
+    let mut count = 0;
+    let mut from = start;
+    loop {
+        let end = find(line, from, SPACE);
+        let number = number_of(&line[from..end]);
+        let k = count + 1;
+        let many = is_too_many(word, k);
+        if many {
+            return Fields {
+                numbers,
+                count,
+                bad: k,
+            };
+        }
+        let Number::Is(n) = number else {
+            return Fields {
+                numbers,
+                count,
+                bad: k,
+            };
+        };
+        keep(&mut numbers, count, n);
+        if end == line.len() {
+            let bad = missing(word, k);
+            return Fields {
+                numbers,
+                count: k,
+                bad,
+            };
+        }
+        count = k;
+        from = end + 1;
+    }
 }
 
 // As many tasks are too many already.
 const TOO_MANY: usize = 17;
 
-// Of n fields of tasks the periods, as far as they are not too many already.
+// Every other number from a place on.
+fn every_other(numbers: &[u32; KEPT], from: usize) -> [u32; TOO_MANY]
+    requires { ⌜ from ≤ 4 ⌝ }
+    ensures { λ r. ⌜ EveryOther (now (numbers .entry)) from r ⌝ }
+{
+    let mut r = [0u32; TOO_MANY];
+    for i in 0..TOO_MANY {
+        r[i] = numbers[from + 2 * i];
+    }
+    r
+}
+
+// Of n numbers of tasks the periods, as far as they are not too many already.
 fn periods_of(n: usize) -> usize
     ensures { λ r. ⌜ (r ≡ periodsOf n) × (r ≤ 17) ⌝ }
 {
@@ -117,9 +186,9 @@ fn costs_of(n: usize) -> usize
     if 2 * TOO_MANY < n { TOO_MANY } else { n / 2 }
 }
 
-// What the word asks, with the first three fields and the tasks.
+// What the word asks, with the first three numbers and the tasks.
 fn put_to_shares(word: Word, a: u32, b: u32, c: u32, periods: &[u32], costs: &[u32]) -> Answer
-    ensures { λ r. ⌜ textOf r ≡ lineOf (wordReply word a b c (now (periods .entry)) (now (costs .entry))) ⌝ }
+    ensures { λ r. ⌜ textOf r ≡ lineOf (replyTo (question word a b c (record { periods = now (periods .entry); costs = now (costs .entry) }))) ⌝ }
 {
     match word {
         Word::Supply => of_ticks(shares::supply(a, b, c)),
@@ -130,47 +199,59 @@ fn put_to_shares(word: Word, a: u32, b: u32, c: u32, periods: &[u32], costs: &[u
     }
 }
 
-// The tasks stand behind the word's own fields: behind two of them the odd fields are the periods, behind
-// one the even ones are. (Behind supply's three there are none.)
-fn with_tasks(word: Word, heads: usize, n: usize, odd: &[u32; PAIRS], even: &[u32; PAIRS]) -> Answer
-    ensures { λ r. ⌜ textOf r ≡ lineOf (replyOf word heads n (now (odd .entry)) (now (even .entry))) ⌝ }
+// The question of a word and its numbers: the tasks stand behind the word's own, a period and a cost after the other.
+fn asked(word: Word, numbers: [u32; KEPT], count: usize) -> Answer
+    requires { ⌜ headsOf word ≤ count ⌝ }
+    ensures { λ r. ⌜ Answers word numbers count (textOf r) ⌝ }
 {
-    let odds = &odd[..];
-    let evens = &even[..];
-    let p = 1 + periods_of(n);
-    if heads == 2 {
-        let c = 2 + costs_of(n);
-        return put_to_shares(word, odds[0], evens[1], odds[1], &odds[1..p], &evens[2..c]);
-    }
-    let c = 1 + costs_of(n);
-    put_to_shares(word, odds[0], evens[1], odds[1], &evens[1..p], &odds[1..c])
+    let h = heads(word);
+    let n = count - h;
+    let periods = every_other(&numbers, h);
+    let costs = every_other(&numbers, h + 1);
+    let p = periods_of(n);
+    let c = costs_of(n);
+    put_to_shares(
+        word,
+        numbers[0],
+        numbers[1],
+        numbers[2],
+        &periods[..p],
+        &costs[..c],
+    )
 }
 
-// A line without a byte.
-fn is_blank(word: u64, count: usize) -> bool
-    ensures { λ r. ⌜ r ≡ isBlank word count ⌝ }
+// A word that is known, and the fields that begin at `start`.
+fn query(word: Word, line: &[u8], start: usize) -> Answer
+    requires { ⌜ start ≤ length (now line) ⌝ }
+    ensures { λ r. ⌜ textOf r ≡ fieldsMean (Known word) (piecesFrom 32 start (now (line .entry))) ⌝ }
 {
-    word == 1 && count == 0
+    let fields = fields_of(word, line, start);
+    if fields.bad != 0 {
+        return bad_field(fields.bad);
+    }
+    let numbers = fields.numbers;
+    asked(word, numbers, fields.count)
 }
 
-pub(crate) fn asked(line: Line) -> Answer
-    ensures { λ r. ⌜ textOf r ≡ answerOf line ⌝ }
+// What the bytes of a line ask, without a carriage return at its end.
+pub(crate) fn answer_to(line: &[u8]) -> Answer
+    requires { ⌜ 0 < length (now line) ⌝ }
+    ensures { λ r. ⌜ textOf r ≡ bytesMean (now (line .entry)) ⌝ }
 {
-    let reading = line.reading;
-    let count = reading.count;
-    if is_blank(reading.word, count) {
-        return Answer::Nothing;
+    let end = find(line, 0, SPACE);
+    let alone = end == line.len();
+    let spoken = word_of(&line[..end]);
+    match spoken {
+        Spoken::Unknown => text_alone(Head::BadWord),
+        Spoken::Help => if alone {
+            text_alone(Head::Help)
+        } else {
+            bad_field(1)
+        },
+        Spoken::Known(word) => if alone {
+            bad_field(1)
+        } else {
+            query(word, line, end + 1)
+        },
     }
-    let spoken = word_of(reading.word);
-    let Spoken::Known(word) = spoken else {
-        return Answer::BadWord;
-    };
-    let heads = heads(word);
-    let field = first_bad(heads, most(word), count, reading.no_digits());
-    if field != 0 {
-        return Answer::BadField(field);
-    }
-    let odd = line.odd;
-    let even = line.even;
-    with_tasks(word, heads, count - heads, &odd, &even)
 }

@@ -1,82 +1,56 @@
-// A line of text, fed in parts, without its newline.
-use crate::ask::asked;
-use crate::reading::Reading;
+// The line that answers a line.
+use crate::answers::Head;
+use crate::answers::text_alone;
+use crate::ask::answer_to;
 use crate::write::LONGEST_ANSWER;
-use crate::write::put_line;
+use crate::write::put_answer;
 ghost use mathlib.Core.Path.{_≡_};
-ghost use Rattle.queries.specs.Reading.{oddKept, evenKept, startLine, fedBytes};
-ghost use Rattle.queries.specs.Text.{Written};
-ghost use Rattle.queries.specs.Answer.{answerOf};
-ghost use Rattle.queries.specs.Meaning.{lineMeans};
+ghost use mathlib.Core.List.{[]};
+ghost use Prim.Native.Nat.{_≤_};
+ghost use lib.ListN.{length};
+ghost use Rattle.queries.specs.Text.{said, badLine, answerIn, Written};
+ghost use Rattle.queries.specs.Meaning.{trimmed, lineMeans};
 
-// The last field whose number is kept.
-const LAST_KEPT: usize = 37;
+// No line has more bytes; a longer one is answered that it is bad.
+pub const LONGEST_LINE: usize = 65535;
 
-// Fields 2k and 2k + 1 are a pair, whose numbers stand at k.
-pub(crate) const PAIRS: usize = (LAST_KEPT + 1) / 2;
+const RETURN: u8 = b'\r';
 
-// The numbers of the first 37 fields are kept; two fields and 17 tasks, too many already, are 36. That of
-// field k stands at k / 2, the odd fields' and the even ones' apart, so that a task list's periods stand
-// in one of the two arrays and its costs in the other.
-pub struct Line {
-    pub(crate) odd: [u32; PAIRS],
-    pub(crate) even: [u32; PAIRS],
-    pub(crate) reading: Reading,
-}
-
-fn keep(odd: &mut [u32; PAIRS], even: &mut [u32; PAIRS], count: usize, value: u32)
-    ensures { λ _. ⌜ (now (odd .exit) ≡ oddKept (now (odd .entry)) count value)
-        × (now (even .exit) ≡ evenKept (now (even .entry)) count value) ⌝ }
+// How many bytes a line has without a carriage return at its end.
+fn trimmed_size(line: &[u8]) -> usize
+    ensures { λ r. ⌜ (r ≤ length (now (line .entry))) × (r ≡ length (trimmed (now (line .entry)))) ⌝ }
 {
-    if LAST_KEPT < count {
-        return;
+    let n = line.len();
+    if n == 0 {
+        return 0;
     }
-    let place = count / 2;
-    if count % 2 == 1 {
-        odd[place] = value;
-    } else {
-        even[place] = value;
-    }
+    if line[n - 1] == RETURN { n - 1 } else { n }
 }
 
-impl Line {
-    pub fn start() -> Line
-        ensures { λ r. ⌜ r ≡ startLine ⌝ }
-    {
-        let reading = Reading::start();
-        Line {
-            odd: [0; PAIRS],
-            even: [0; PAIRS],
-            reading,
-        }
-    }
-
-    // The line with more bytes behind it.
-    pub fn fed(self, bytes: &[u8]) -> Line
-        ensures { λ r. ⌜ r ≡ fedBytes self (now (bytes .entry)) ⌝ }
-    {
-        let mut odd = self.odd;
-        let mut even = self.even;
-        let mut reading = self.reading;
-        for k in 0..bytes.len() {
-            reading = reading.read(bytes[k]);
-            keep(&mut odd, &mut even, reading.count, reading.value);
-        }
-        Line { odd, even, reading }
-    }
-
-    // The line that answers this one, at the start of `out`, and how many bytes it has; none where
-    // this one is empty.
-    pub fn answer(self, out: &mut [u8; LONGEST_ANSWER]) -> usize
-        ensures { λ r. ⌜ Written (answerOf self) (now (out .entry)) (now (out .exit)) r ⌝ }
-    {
-        put_line(asked(self), out)
-    }
-}
-
-// A whole line at once: what it means, and no word of how it is read.
-pub fn answer_whole(line: &[u8], out: &mut [u8; LONGEST_ANSWER]) -> usize
-    ensures { λ r. ⌜ Written (lineMeans (now (line .entry))) (now (out .entry)) (now (out .exit)) r ⌝ }
+// The answer to a line that is too long, of which not all was kept.
+pub fn bad_line(out: &mut [u8]) -> usize
+    ensures { λ r. ⌜ Written (answerIn (said badLine []) (now (out .entry))) (now (out .entry)) (now (out .exit)) r ⌝ }
 {
-    Line::start().fed(line).answer(out)
+    if out.len() < LONGEST_ANSWER {
+        return 0;
+    }
+    put_answer(out, text_alone(Head::BadLine))
+}
+
+// The line that answers this one, at the start of `out`, and how many bytes it has; none where this one is empty, and where a
+// longest answer would have no room.
+pub fn answer(line: &[u8], out: &mut [u8]) -> usize
+    ensures { λ r. ⌜ Written (answerIn (lineMeans (now (line .entry))) (now (out .entry))) (now (out .entry)) (now (out .exit)) r ⌝ }
+{
+    if LONGEST_LINE < line.len() {
+        return bad_line(out);
+    }
+    let n = trimmed_size(line);
+    if n == 0 {
+        return 0;
+    }
+    if out.len() < LONGEST_ANSWER {
+        return 0;
+    }
+    put_answer(out, answer_to(&line[..n]))
 }

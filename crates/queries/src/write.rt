@@ -1,74 +1,58 @@
 // The line that an answer is written as.
-use crate::answer::Answer;
-use text::put_number;
-ghost use mathlib.Core.List.{[], _∷_};
+use crate::answers::Answer;
+use crate::answers::Head;
+use text::put_end;
+use text::put_field;
+use text::put_text;
+ghost use mathlib.Core.List.{[], _∷_, map};
 ghost use Prim.Native.Nat.{_+_, _≤_};
-ghost use lib.ListN.{length};
-ghost use Rattle.text.specs.Text.{decimal, Put};
-ghost use Rattle.queries.specs.Text.{textOf, Written};
+ghost use lib.ListN.{length, take};
+ghost use Rattle.text.specs.Text.{decimal, fields, Put};
+ghost use Rattle.queries.specs.Text.{longest};
+ghost use Rattle.queries.specs.Private.{headText, textOf};
 
-// No line of an answer has more bytes.
-pub const LONGEST_ANSWER: usize = 64;
+// No line of an answer has more bytes: a text of at most 119, two numbers behind a space each, and a newline.
+pub const LONGEST_ANSWER: usize = 162;
 
-fn put(out: &mut [u8], at: usize, text: &[u8]) -> usize
-    requires { ⌜ at + length (now text) ≤ length (now out) ⌝ }
-    ensures { λ r. ⌜ Put (now (out .entry)) at (now (text .entry)) (now (out .exit)) r ⌝ }
+fn put_head(out: &mut [u8], at: usize, head: Head) -> usize
+    requires { ⌜ at + 119 ≤ length (now out) ⌝ }
+    ensures { λ r. ⌜ Put (now (out .entry)) at (headText head) (now (out .exit)) r ⌝ }
 {
-    let mut k = 0;
-    while k < text.len() {
-        out[at + k] = text[k];
-        k += 1;
+    match head {
+        Head::Ok => put_text(out, at, b"ok"),
+        Head::No => put_text(out, at, b"no"),
+        Head::BadWord => put_text(out, at, b"bad word"),
+        Head::BadField => put_text(out, at, b"bad field"),
+        Head::BadLine => put_text(out, at, b"bad line"),
+        Head::Help => put_text(
+            out,
+            at,
+            b"supply P B t | demand i t TASKS | check P B TASKS | least P TASKS | best PMAX TASKS (TASKS: period cost period cost ..)",
+        ),
     }
-    at + k
 }
 
-// A space and a number.
-fn put_field(out: &mut [u8; LONGEST_ANSWER], at: usize, n: u64) -> usize
-    requires { ⌜ at + 21 ≤ 64 ⌝ }
-    ensures { λ r. ⌜ Put (now (out .entry)) at (32 ∷ decimal n) (now (out .exit)) r × (r ≤ at + 21) ⌝ }
+// The first `count` of the two numbers, each behind a space, and a newline.
+fn put_numbers(out: &mut [u8], at: usize, count: usize, first: u64, second: u64) -> usize
+    requires { ⌜ at + 43 ≤ length (now out) ⌝ }
+    ensures { λ r. ⌜ Put (now (out .entry)) at (fields (map decimal (take count (first ∷ second ∷ [])))) (now (out .exit)) r × (r ≤ at + 43) ⌝ }
 {
-    out[at] = b' ';
-    put_number(out, at + 1, n)
-}
-
-fn put_end(out: &mut [u8; LONGEST_ANSWER], at: usize) -> usize
-    requires { ⌜ at + 1 ≤ 64 ⌝ }
-    ensures { λ r. ⌜ Put (now (out .entry)) at (10 ∷ []) (now (out .exit)) r ⌝ }
-{
-    out[at] = b'\n';
-    at + 1
-}
-
-pub(crate) fn put_line(answer: Answer, out: &mut [u8; LONGEST_ANSWER]) -> usize
-    ensures { λ r. ⌜ Written (textOf answer) (now (out .entry)) (now (out .exit)) r ⌝ }
-{
-    match answer {
-        Answer::Nothing => 0,
-        Answer::BadWord => {
-            let at = put(out, 0, b"bad word");
-            put_end(out, at)
-        }
-        Answer::BadField(k) => {
-            let at = put(out, 0, b"bad field");
-            let at = put_field(out, at, k as u64);
-            put_end(out, at)
-        }
-        Answer::One(n) => {
-            let at = put(out, 0, b"ok");
-            let at = put_field(out, at, n as u64);
-            put_end(out, at)
-        }
-        Answer::Two(n, m) => {
-            let at = put(out, 0, b"ok");
-            let at = put_field(out, at, n as u64);
-            let at = put_field(out, at, m as u64);
-            put_end(out, at)
-        }
-        Answer::No(n, m) => {
-            let at = put(out, 0, b"no");
-            let at = put_field(out, at, n as u64);
-            let at = put_field(out, at, m as u64);
-            put_end(out, at)
-        }
+    if count == 0 {
+        return put_end(out, at);
     }
+    let next = put_field(out, at, first);
+    if count == 1 {
+        return put_end(out, next);
+    }
+    let last = put_field(out, next, second);
+    put_end(out, last)
+}
+
+pub(crate) fn put_answer(out: &mut [u8], answer: Answer) -> usize
+    requires { ⌜ longest ≤ length (now out) ⌝ }
+    ensures { λ r. ⌜ Put (now (out .entry)) 0 (textOf answer) (now (out .exit)) r × (r ≤ longest) ⌝ }
+{
+    let head = answer.head;
+    let at = put_head(out, 0, head);
+    put_numbers(out, at, answer.count, answer.first, answer.second)
 }

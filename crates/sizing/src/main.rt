@@ -4,88 +4,214 @@ use libc::STDERR_FILENO;
 use libc::STDIN_FILENO;
 use libc::STDOUT_FILENO;
 use queries::LONGEST_ANSWER;
-use queries::Line;
-use queries::serve;
-ghost use Prim.Native.Nat.{_≤_};
-ghost use lib.ListN.{length};
+use queries::LONGEST_LINE;
+use reads::Standing;
+ghost use Prim.Native.Nat.{_+_, _^_, _≤_, _<_};
+ghost use mathlib.Core.Path.{_≡_};
+ghost use mathlib.Core.Bool.{cond, _||_};
+ghost use mathlib.Core.Logic.{_⊎_};
+ghost use lib.Dec.{ltb, eqb};
+ghost use lib.ListN.{length, take, drop, set};
+ghost use Rattle.reads.specs.declared.Standing.the-variants.{GoesOn, WriteFailed};
+ghost use Rattle.reads.specs.Reads.{Bytes, toServe, lastBytes};
+ghost use Rattle.reads.specs.Program.{Ran};
+ghost use Rattle.queries.specs.Text.{longest, answerIn, Written};
+ghost use Rattle.queries.specs.Meaning.{until};
+ghost use Rattle.sizing.specs.Program.{lineAnswer, servedPart, roundOf, program};
+ghost use Rattle.sizing.specs.Goes.{Went};
 
-// The line that has begun, and whether there may be more of it.
+// Whether the line that has begun is too long already and is let go as it comes, how many bytes are used, how many wait
+// for the rest of their line, and how the program stands.
 struct Round {
-    line: Line,
-    more: bool,
+    long: bool,
+    offset: u64,
+    held: usize,
+    standing: Standing,
 }
 
-fn is_written(out: &[u8], count: usize) -> bool
-    requires { ⌜ count ≤ length (now out) ⌝ }
-{
-    let ok = io::write_all(STDOUT_FILENO, &out[..count]);
+// What a go served: the same of its line, how many bytes of its part are used, how many bytes of answers stand in front of
+// its room, and whether it ended because that is full.
+struct Go {
+    long: bool,
+    used: usize,
+    written: usize,
+    full: bool,
+}
+
+// `card` has its own: a library's function has to promise its result, and no contract says whether a write works.
+fn is_written(answers: &[u8]) -> bool {
+    let ok = io::write_all(STDOUT_FILENO, answers);
     if !ok {
         io::write_all(STDERR_FILENO, b"sizing: a write failed\n");
     }
     ok
 }
 
-// A part of the input, in as many goes as the room for its answers takes. There is room for one answer, so that every go
-// reads a byte.
-fn answered(start: Line, input: &[u8], out: &mut [u8]) -> Round
-    requires { ⌜ 64 ≤ length (now out) ⌝ }
+// The answer to a line that has ended.
+fn told(long: bool, line: &[u8], out: &mut [u8]) -> usize
+    ensures { λ r. ⌜ Written (answerIn (lineAnswer long (now (line .entry))) (now (out .entry))) (now (out .entry)) (now (out .exit)) r ⌝ }
 {
-    let mut line = start;
-    let mut from = 0;
-    while from < input.len() {
-        let s = serve(line, &input[from..], out);
-        line = s.line;
-        if !is_written(out, s.count) {
-            return Round { line, more: false };
-        }
-        from += s.used;
+    if long {
+        return queries::bad_line(out);
     }
-    Round { line, more: true }
+    queries::answer(line, out)
 }
 
-fn is_told(text: &[u8; LONGEST_ANSWER], count: usize) -> bool
-    requires { ⌜ count ≤ 64 ⌝ }
+fn is_too_long(long: bool, size: usize) -> bool
+    ensures { λ r. ⌜ r ≡ long || ltb 65535 size ⌝ }
 {
-    is_written(&text[..], count)
+    if long {
+        return true;
+    }
+    LONGEST_LINE < size
 }
 
-// The end of the input ends the last line.
-fn finished(line: Line) -> Round {
-    let mut text = [0u8; LONGEST_ANSWER];
-    let n = line.answer(&mut text);
-    is_told(&text, n);
-    Round { line, more: false }
-}
-
-// Reads once, and writes the answers to the lines that ended.
-fn one_round(line: Line, input: &mut [u8], out: &mut [u8]) -> Round
-    requires { ⌜ 64 ≤ length (now out) ⌝ }
+// The place of the newline that ends the line that begins at `from`; the end of the part where there is none.
+fn line_end(part: &[u8], from: usize) -> usize
+    requires { ⌜ from ≤ length (now part) ⌝ }
+    ensures { λ r. ⌜ r ≡ from + length (until 10 (drop from (now (part .entry)))) ⌝ }
 {
-    let got = libc::read(STDIN_FILENO, input);
+    bytes::scan::find(part, from, part.len(), b'\n')
+}
+
+// Answers the lines of the part that have ended, until there is no room for a longest answer.
+fn answers(begun: bool, part: &[u8], out: &mut [u8]) -> Go
+    ensures { λ r. ⌜ Went begun (now (part .entry)) (now (out .exit)) r ⌝ }
+{
+    let mut long = begun;
+    let mut used = 0;
+    let mut written = 0;
+    loop {
+        let end = line_end(part, used);
+        if end == part.len() {
+            let too_long = is_too_long(long, end - used);
+            if too_long {
+                return Go {
+                    long: true,
+                    used: end,
+                    written,
+                    full: false,
+                };
+            }
+            return Go {
+                long: false,
+                used,
+                written,
+                full: false,
+            };
+        }
+        if out.len() - written < LONGEST_ANSWER {
+            return Go {
+                long,
+                used,
+                written,
+                full: true,
+            };
+        }
+        let room = &mut out[written..];
+        written += told(long, &part[used..end], room);
+        long = false;
+        used = end + 1;
+    }
+}
+
+// Writes the answers to the lines of the part that have ended, in as many goes as the room for answers asks for.
+fn answered(begun: bool, offset: u64, part: &[u8], last: bool, out: &mut [u8]) -> Round
+    requires { ⌜ (longest ≤ length (now out)) × (offset + length (now part) < 2 ^ 64) ⌝ }
+    ensures { λ r. ⌜ r .held ≤ length (now (part .entry)) ⌝ }
+    ensures { λ r. ⌜ (r .standing ≡ WriteFailed) ⊎ (r ≡ servedPart begun offset (now (part .entry)) last) ⌝ }
+{
+    let mut long = begun;
+    let mut used = 0;
+    loop {
+        let go = answers(long, &part[used..], out);
+        long = go.long;
+        used += go.used;
+        let ok = is_written(&out[..go.written]);
+        if !ok || !go.full {
+            let offset = offset + used as u64;
+            let held = part.len() - used;
+            return Round {
+                long,
+                offset,
+                held,
+                standing: reads::standing_of(ok, false, last, offset),
+            };
+        }
+    }
+}
+
+// The end of the input ends the last line: where no byte came, a newline behind those that wait. An empty line is answered
+// nothing, so that this is right where none waits, too.
+fn end_of(input: &mut [u8], held: usize, n: usize) -> usize
+    requires { ⌜ (held < length (now input)) × (held + n ≤ length (now input)) ⌝ }
+    ensures { λ r. ⌜ (r ≡ cond (eqb n 0) (held + 1) (held + n))
+        × (now (input .exit) ≡ cond (eqb n 0) (set (now (input .entry)) held 10) (now (input .entry))) ⌝ }
+{
+    let none = n == 0;
+    if none {
+        input[held] = b'\n';
+        return held + 1;
+    }
+    held + n
+}
+
+// Serves what a read left behind the bytes that waited, where it answered `got`. There is room behind them, so that no
+// byte read means the end of the input. What waits then stands in front.
+fn one_round(
+    long: bool,
+    offset: u64,
+    input: &mut [u8],
+    held: usize,
+    got: isize,
+    out: &mut [u8],
+) -> Round
+    requires { ⌜ (held < length (now input)) × (longest ≤ length (now out)) × (offset + length (now input) < 2 ^ 64) ⌝ }
+    ensures { λ r. ⌜ (r .standing ≡ GoesOn → take (r .held) (now (input .exit)) ≡ lastBytes (r .held) (toServe (now (input .entry)) held got)) × Bytes (now (input .entry)) ⌝ }
+    ensures { λ r. ⌜ (r .standing ≡ WriteFailed) ⊎ (r ≡ roundOf long offset held (toServe (now (input .entry)) held got) got) ⌝ }
+{
     if got < 0 {
         io::write_all(STDERR_FILENO, b"sizing: a read failed\n");
-        return Round { line, more: false };
+        return Round {
+            long,
+            offset,
+            held,
+            standing: Standing::ReadFailed,
+        };
     }
-    if got == 0 {
-        return finished(line);
-    }
-    let n = io::count(got, input);
-    answered(line, &input[..n], out)
+    let n = io::count(got, &input[held..]);
+    let last = n == 0;
+    let end = end_of(input, held, n);
+    let r = answered(long, offset, &input[..end], last, out);
+    let from = end - r.held;
+    reads::move_rest(input, from, end);
+    r
 }
 
-// A proved loop has to end, and nothing says that the input does. So the loop counts its rounds down
-// from a number that no run uses up.
-fn main() {
+// Reads and serves until there is a reason to end, and hands it back with what was served.
+fn run() -> Round
+    ensures { λ r. ⌜ Ran program r ⌝ }
+{
     let mut input = io::large_buffer();
     let mut out = io::buffer();
-    let mut line = Line::start();
-    let mut rounds = u64::MAX;
-    while rounds > 0 {
-        let r = one_round(line, &mut input, &mut out);
-        if !r.more {
-            return;
-        }
-        line = r.line;
-        rounds -= 1;
+    let mut r = Round {
+        long: false,
+        offset: 0,
+        held: 0,
+        standing: Standing::GoesOn,
+    };
+    loop {
+        let held = r.held;
+        let part = &mut input[held..];
+        let got = libc::read(STDIN_FILENO, part);
+        r = one_round(r.long, r.offset, &mut input, held, got, &mut out);
+        let standing = r.standing;
+        let Standing::GoesOn = standing else {
+            return r;
+        };
     }
+}
+
+fn main() {
+    run();
 }

@@ -45,6 +45,14 @@ pub record Put (before : List ℕ) (at : ℕ) (xs after : List ℕ) (next : ℕ)
   pub behind : next ≡ at + length xs
   pub stored : after ≡ sets before at xs
 
--- the digits of n, where 20 of them would have room at the place `at`; else nothing
-abbrev pub numberIn : List ℕ → ℕ → ℕ → List ℕ
-numberIn out at n = cond (ltb (length out) (at + 20)) [] (decimal n)
+-- a space and the digits of n, where 20 of them would have room behind it at the place `at`; else nothing
+abbrev pub fieldIn : List ℕ → ℕ → ℕ → List ℕ
+fieldIn out at n = cond (ltb (length out) (at + 21)) [] (32 ∷ decimal n)
+
+-- a newline, where it has room
+abbrev pub endIn : List ℕ → ℕ → List ℕ
+endIn out at = cond (ltb at (length out)) (10 ∷ []) []
+
+-- a text, where all of it has room
+abbrev pub textIn : List ℕ → ℕ → List ℕ → List ℕ
+textIn out at text = cond (ltb (length out) (at + length text)) [] text

@@ -1,11 +1,11 @@
-// A number in decimal, as the lines of both programs have it.
+// What the lines of both programs are made of: a text, a number in decimal behind a space, and the newline at the end.
 ghost use Prim.Native.Nat.{_+_, _≤_, _<_};
 ghost use mathlib.Core.Path.{_≡_};
 ghost use lib.ListN.{length};
-ghost use Rattle.text.specs.Text.{decimal, numberIn, Put};
+ghost use Rattle.text.specs.Text.{decimal, fieldIn, endIn, textIn, Put};
 
-// No number has more digits.
-const MOST_DIGITS: usize = 20;
+// A space, and the digits: no number has more than 20.
+const LONGEST_FIELD: usize = 21;
 
 // How many digits a number below 10,000 has.
 fn short_width(n: u64) -> usize
@@ -60,15 +60,45 @@ fn put_digits(out: &mut [u8], at: usize, n: u64) -> usize
     end
 }
 
-// The digits at the place `at`, and the place behind them; nothing, and `at` itself, where there may be no room.
-pub fn put_number(out: &mut [u8], at: usize, n: u64) -> usize
-    ensures { λ r. ⌜ Put (now (out .entry)) at (numberIn (now (out .entry)) at n) (now (out .exit)) r ⌝ }
+// A space and the digits at the place `at`, and the place behind them; nothing, and `at` itself, where there may be no room.
+pub fn put_field(out: &mut [u8], at: usize, n: u64) -> usize
+    ensures { λ r. ⌜ Put (now (out .entry)) at (fieldIn (now (out .entry)) at n) (now (out .exit)) r ⌝ }
 {
     if out.len() < at {
         return at;
     }
-    if out.len() - at < MOST_DIGITS {
+    if out.len() - at < LONGEST_FIELD {
         return at;
     }
-    put_digits(out, at, n)
+    out[at] = b' ';
+    put_digits(out, at + 1, n)
+}
+
+// A newline at the place `at`, and the place behind it; nothing, and `at` itself, where there is no room.
+pub fn put_end(out: &mut [u8], at: usize) -> usize
+    ensures { λ r. ⌜ Put (now (out .entry)) at (endIn (now (out .entry)) at) (now (out .exit)) r ⌝ }
+{
+    if out.len() <= at {
+        return at;
+    }
+    out[at] = b'\n';
+    at + 1
+}
+
+// A text at the place `at`, and the place behind it; nothing, and `at` itself, where it has no room.
+pub fn put_text(out: &mut [u8], at: usize, text: &[u8]) -> usize
+    ensures { λ r. ⌜ Put (now (out .entry)) at (textIn (now (out .entry)) at (now (text .entry))) (now (out .exit)) r ⌝ }
+{
+    if out.len() < at {
+        return at;
+    }
+    if out.len() - at < text.len() {
+        return at;
+    }
+    let mut k = 0;
+    while k < text.len() {
+        out[at + k] = text[k];
+        k += 1;
+    }
+    at + k
 }

@@ -4,6 +4,7 @@
 use libc::STDERR_FILENO;
 use libc::STDIN_FILENO;
 use libc::STDOUT_FILENO;
+use reads::Standing;
 use turns::Core;
 use turns::Found;
 use turns::Refusal;
@@ -11,14 +12,6 @@ use units::Tunnel;
 ghost use Prim.Native.Nat.{_≤_};
 ghost use lib.ListN.{length};
 ghost use Rattle.turns.specs.State.{ValidCore};
-
-// Whether there may be more records, or why reading ended.
-enum Standing {
-    GoesOn,
-    EndOfInput,
-    Refused,
-    ReadFailed,
-}
 
 // The core, the offset of the first byte that waits for the rest of its record, how many wait, how the reading stands and, where it is
 // refused, with which refusal.
@@ -30,14 +23,6 @@ struct Round {
     refusal: Refusal,
 }
 
-// Where nothing more can be served.
-fn standing_of(last: bool) -> Standing {
-    if last {
-        return Standing::EndOfInput;
-    }
-    Standing::GoesOn
-}
-
 // The offset behind `used` bytes, held to the largest.
 fn behind(offset: u64, used: usize) -> u64 {
     let more = used as u64;
@@ -45,17 +30,6 @@ fn behind(offset: u64, used: usize) -> u64 {
         return u64::MAX;
     }
     offset + more
-}
-
-// Moves the bytes from `from` to `end` to the front.
-fn move_rest(input: &mut [u8], from: usize, end: usize)
-    requires { ⌜ (from ≤ end) × (end ≤ length (now input)) ⌝ }
-{
-    let mut k = from;
-    while k < end {
-        input[k - from] = input[k];
-        k += 1;
-    }
 }
 
 // Serves the records before `end`, in as many goes as the room for their lines asks for; nobody reads the lines.
@@ -77,21 +51,14 @@ fn served(core: Core, offset: u64, input: &[u8], end: usize, last: bool) -> Roun
         let refusal = s.refusal;
         core = s.core;
         used += s.used;
-        if s.stopped {
+        if s.stopped || s.used == 0 {
+            let offset = behind(offset, used);
+            let held = end - used;
             return Round {
                 core,
-                offset: behind(offset, used),
-                held: end - used,
-                standing: Standing::Refused,
-                refusal,
-            };
-        }
-        if s.used == 0 {
-            return Round {
-                core,
-                offset: behind(offset, used),
-                held: end - used,
-                standing: standing_of(last),
+                offset,
+                held,
+                standing: reads::standing_of(true, s.stopped, last, offset),
                 refusal,
             };
         }
@@ -119,7 +86,7 @@ fn one_round(core: Core, offset: u64, input: &mut [u8], held: usize, got: isize)
     let end = held + n;
     let r = served(core, offset, input, end, n == 0);
     let from = end - r.held;
-    move_rest(input, from, end);
+    reads::move_rest(input, from, end);
     r
 }
 

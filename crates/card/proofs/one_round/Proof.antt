@@ -9,8 +9,9 @@ use mir.Syntax.{w64}
 use mir.Val.{toZ, ofZ}
 use mir.ValLaws.{toZ-ofZ}
 use borrow.Author.Needs.{needs}
-use Rattle.records.specs.Bytes.{AreBytes}
-use Rattle.card.proofs.Rounds.{all-bytes, round-failed, count-is, round-kept, round-served}
+use Rattle.reads.specs.Reads.{Bytes, toServe}
+use Rattle.reads.proofs.Rounds.{failed-kept, count-is, round-kept}
+use Rattle.card.proofs.Rounds.{round-failed, round-served}
 use Rattle.card.proofs.one_round.Statement.{statement}
 use Rattle.card.proofs.one_round.Tie as tie
 
@@ -32,8 +33,8 @@ bits : (c : tie.After-slice-known2) → toZ w64 (ofZ w64 (start c .args .got)) �
 bits c = toZ-ofZ w64 (start c .args .got) (start c .fits .got)
 
 -- what a slice of bytes holds
-are-bytes : (c : tie.After-slice-known2) → AreBytes (start c .args .input .now)
-are-bytes c = all-bytes (start c .args .input .now) (λ i. c .before .slice-known .given i .fits)
+are-bytes : (c : tie.After-slice-known2) → Bytes (start c .args .input .now)
+are-bytes c i = c .before .slice-known .given i .fits
 
 slice-aggregate-write-all : tie.Need-slice-aggregate-write-all
 slice-aggregate-write-all c = search needs
@@ -46,10 +47,10 @@ returns c =
     let t = c .before .before in
     let b = t .before in
     let a = start b .args in
-    let f =
-    round-failed (a .core) (a .offset) (a .input .now) (a .held) (a .got) (omega (arith, start b .pre .1))
-    (subst (λ (z : ℤ). ltZ z (pos 0) ≡ true) (bits b) (t .if1 .taken)) in
-    ((start b .pre .0, f .0, are-bytes b), inr (f .1))
+    let below : ltZ (a .got) (pos 0) ≡ true = subst (λ (z : ℤ). ltZ z (pos 0) ≡ true) (bits b) (t .if1 .taken) in (
+      (start b .pre .0, failed-kept (a .input .now) (a .held) (a .got) (omega (arith, start b .pre .1)) below, are-bytes b),
+      inr (round-failed (a .core) (a .offset) (a .held) (toServe (a .input .now) (a .held) (a .got)) (a .got) below),
+    )
 
 sub-count : tie.Need-sub-count
 sub-count c = search needs
@@ -73,9 +74,7 @@ sub-from : tie.Need-sub-from
 sub-from c = search needs
 
 move-rest-requires : tie.Need-move-rest-requires
-move-rest-requires c κs =
-    let k = counted (c .before .before .before .before) in
-    omega (arith, k .count .ensures, start (told k .before) .pre .1)
+move-rest-requires c κs = search needs
 
 same-length : tie.Need-same-length
 same-length c = search needs
@@ -95,11 +94,11 @@ returns-2 c =
     count-is (a .input .now) (a .held) (a .got) (toZ w64 (ofZ w64 (a .got))) (k .count .result) (bits b) (k .count .ensures .1) in (
       (
         d .answered .ensures .0 .0,
-        round-kept (a .core) (a .offset) (a .input .now) (a .held) (a .got) (k .count .result) (m .move-rest .last .0)
+        round-kept (a .input .now) (a .held) (a .got) (k .count .result) (m .move-rest .last .0)
             (d .answered .result .held) low n (d .answered .ensures .0 .1) (m .move-rest .ensures),
         are-bytes b,
       ),
-      round-served (a .core) (a .offset) (a .input .now) (a .held) (a .got) (k .count .result) (d .answered .result)
+      round-served (a .core) (a .offset) (a .held) (a .input .now) (a .got) (k .count .result) (d .answered .result)
           low n (subst (λ (z : ℤ). ltZ z (pos 0) ≡ false) (bits b) (told k .if1 .left)) (d .answered .ensures .1),
     )
 

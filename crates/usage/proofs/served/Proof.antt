@@ -5,6 +5,7 @@ use native.Mathlib.Omega.{arith}
 use lib.ListN.{length, drop, length-take, length-drop}
 use Rattle.turns.specs.State.{ValidCore}
 use borrow.Author.Needs.{needs}
+use borrow.Author.Tests.{eqb-false}
 use Rattle.usage.proofs.served.Statement.{statement}
 use Rattle.usage.proofs.served.Tie as tie
 
@@ -63,26 +64,21 @@ add-used c =
 behind-requires-2 : tie.Need-behind-requires-2 Inv-loop μ-loop
 behind-requires-2 c κs = search needs
 
-sub-t21 : tie.Need-sub-t21 Inv-loop μ-loop
-sub-t21 c = search needs
-
-returns : tie.Need-returns Inv-loop μ-loop
-returns c = search needs
-
-behind-requires-3 : tie.Need-behind-requires-3 Inv-loop μ-loop
-behind-requires-3 c κs = search needs
-
-sub-t24 : tie.Need-sub-t24 Inv-loop μ-loop
-sub-t24 c = omega (arith, serve-used (c .before .before .before .before .before .before .before .before))
+sub-held : tie.Need-sub-held Inv-loop μ-loop
+sub-held c = search needs
 
 standing-of-requires : tie.Need-standing-of-requires Inv-loop μ-loop
 standing-of-requires c κs = search needs
 
-returns-2 : tie.Need-returns-2 Inv-loop μ-loop
-returns-2 c = search needs
+returns : tie.Need-returns Inv-loop μ-loop
+returns c = search needs
+
+-- where another go follows
+abbrev goes-on : tie.Else2 Inv-loop μ-loop → tie.After-serve Inv-loop μ-loop
+goes-on e = e .before .before .before .before .before .before .before
 
 loop-less : tie.Need-loop-less Inv-loop μ-loop
-loop-less c = search needs
+loop-less c = omega (arith, eqb-false, c .if2 .left, serve-used (goes-on c))
 
 loop-again : tie.Need-loop-again Inv-loop μ-loop
 loop-again c = search needs
@@ -103,11 +99,8 @@ served-spec =
     serve-requires
     add-used
     behind-requires-2
-    sub-t21
-    returns
-    behind-requires-3
-    sub-t24
+    sub-held
     standing-of-requires
-    returns-2
+    returns
     loop-less
     loop-again)

@@ -1,15 +1,18 @@
--- `put_refusal` puts the line of a refusal. Each place of the program that facts are taken from is named once. Assumes nothing.
-use Prim.Native.Nat.{ℕ}
-use mathlib.Core.List.{List}
-use mathlib.Core.Path.{_≡_, _∙_}
+-- `put_refusal` puts the line of a refusal. Each place of the program that facts are taken from is named once, with what was put
+-- up to there. Assumes nothing.
+use Prim.Native.Nat.{ℕ, _+_, _≤_}
+use mathlib.Core.List.{List, _∷_, _++_, append-assoc}
+use mathlib.Core.Path.{refl, _∙_}
 use native.Mathlib.Omega.{arith}
-use lib.ListN.{length, length-set}
+use lib.ListN.{length-set}
 use borrow.Author.Needs.{needs}
-use Rattle.text.proofs.Writing.{put-size, put-letters, put-two}
+use Rattle.turns.specs.declared.Refusal.{Refusal}
+use Rattle.text.specs.Text.{decimal, no, Put}
+use Rattle.text.proofs.Writing.{put-as, put-size, put-letters, field-behind, end-behind}
 use Rattle.lines.proofs.line.put_refusal.Statement.{statement}
 use Rattle.lines.proofs.line.put_refusal.Tie as tie
 
--- the places behind the number and behind the detail, and how long `out` is there
+-- the places behind the number and behind the detail
 abbrev F : Type 0
 F = tie.After-put-field
 
@@ -19,8 +22,17 @@ out c = c .before .before .before .before .args .out .now
 abbrev at : F → ℕ
 at c = c .before .before .before .before .args .at
 
-number-size : (c : F) → length (c .put-field .last .0) ≡ length (out c)
-number-size c = put-size (put-letters (out c) (at c) 110 111 (c .put-field .ensures .0))
+abbrev refusal : F → Refusal
+refusal c = c .before .before .before .before .args .refusal
+
+abbrev Stands : F → List ℕ → ℕ → List ℕ → ℕ → Type 0
+Stands c xs k o′ b = Put (out c) (at c) xs o′ b × (b ≤ at c + k)
+
+abbrev to-number : F → List ℕ
+to-number c = no ++ (32 ∷ decimal (refusal c .number))
+
+number-put : (c : F) → Stands c (to-number c) 23 (c .put-field .last .0) (c .put-field .result)
+number-put c = field-behind 2 _ _ refl (omega arith) (put-letters (out c) (at c) 110 111, omega arith) (c .put-field .ensures)
 
 abbrev G : Type 0
 G = tie.After-put-field2
@@ -28,8 +40,11 @@ G = tie.After-put-field2
 abbrev number : G → F
 number c = c .before .before .before .before
 
-detail-size : (c : G) → length (c .put-field2 .last .0) ≡ length (out (number c))
-detail-size c = put-size (c .put-field2 .ensures .0) ∙ number-size (number c)
+abbrev to-detail : F → List ℕ
+to-detail c = to-number c ++ (32 ∷ decimal (refusal c .detail))
+
+detail-put : (c : G) → Stands (number c) (to-detail (number c)) 44 (c .put-field2 .last .0) (c .put-field2 .result)
+detail-put c = field-behind 23 _ _ refl (omega arith) (number-put (number c)) (c .put-field2 .ensures)
 
 slice-write-out : tie.Need-slice-write-out
 slice-write-out c = search needs
@@ -47,27 +62,23 @@ cast-put-field : tie.Need-cast-put-field
 cast-put-field c = search needs
 
 put-field-requires : tie.Need-put-field-requires
-put-field-requires c κs = simp length-set (omega arith)
+put-field-requires c κs = search needs
 
 put-field-requires-2 : tie.Need-put-field-requires-2
-put-field-requires-2 c κs = let f = c .before .before .before in omega (arith, f .put-field .ensures .1, number-size f)
+put-field-requires-2 c κs = search needs
 
 put-end-requires : tie.Need-put-end-requires
-put-end-requires c κs =
-    let g = c .before .before .before in
-    omega (arith, number g .put-field .ensures .1, g .put-field2 .ensures .1, detail-size g)
+put-end-requires c κs = search needs
 
 same-length : tie.Need-same-length
-same-length c = put-size (c .before .before .put-end .ensures .0) ∙ detail-size (c .before .before .before .before .before .before)
+same-length c =
+    put-size (c .before .before .put-end .ensures) ∙ put-size (detail-put (c .before .before .before .before .before .before) .0)
 
 returns : tie.Need-returns
 returns c =
-    let e = c .before .before .put-end .ensures in
     let g = c .before .before .before .before .before .before in
-    let f = number g in (
-      put-letters (out f) (at f) 110 111 (put-two (f .put-field .ensures .0) (put-two (g .put-field2 .ensures .0) (e .0))),
-      omega (arith, f .put-field .ensures .1, g .put-field2 .ensures .1, e .1),
-    )
+    let p = end-behind 44 (omega arith) (detail-put g) (c .before .before .put-end .ensures) in
+    (put-as (simp append-assoc) (p .0), omega (arith, p .1))
 
 pub put-refusal-spec : {M : Type 1} → statement M
 put-refusal-spec =

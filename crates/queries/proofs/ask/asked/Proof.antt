@@ -1,93 +1,82 @@
--- `asked` is `answerOf`, case by case. Assumes nothing.
-use Rattle.queries.proofs.Asking.{heads-stand, answer-blank, answer-unknown, answer-bad, answer-asked}
-use mathlib.Core.Path.{_≡_, sym, _∙_}
-use mathlib.Core.Bool.{false}
-use Rattle.queries.specs.declared.reading.Reading.{Reading}
-use Rattle.queries.specs.Answer.{isBlank}
+-- `asked` hands on the numbers that were kept, and the tasks among them. Assumes nothing.
+use mathlib.Core.Path.{sym}
+use native.Mathlib.Omega.{arith}
+use lib.Seq.{length-take-le}
+use Rattle.queries.proofs.Replies.{asked-reply}
 use borrow.Author.Needs.{needs}
 use Rattle.queries.proofs.ask.asked.Statement.{statement}
 use Rattle.queries.proofs.ask.asked.Tie as tie
 
-is-blank-requires : tie.Need-is-blank-requires
-is-blank-requires c κs = search needs
-
-returns : tie.Need-returns
-returns c = answer-blank (c .before .before .before .args .line) (sym (c .before .is-blank .ensures) ∙ c .if1 .taken)
-
--- where the line is known to have a byte: its reading
-abbrev reading : tie.Else1 → Reading
-reading c = c .before .before .before .args .line .reading
-
-not-blank : (c : tie.Else1) → isBlank (reading c .word) (reading c .count) ≡ false
-not-blank c = sym (c .before .is-blank .ensures) ∙ c .if1 .left
-
-word-of-requires : tie.Need-word-of-requires
-word-of-requires c κs = search needs
-
-enum-known-spoken : tie.Need-enum-known-spoken
-enum-known-spoken c = search needs
-
-enum-told : tie.Need-enum-told
-enum-told c = search needs
-
-returns-2 : tie.Need-returns-2
-returns-2 c =
-    let word = c .before .before in
-    answer-unknown (word .before .before .before .before .args .line) (not-blank (word .before))
-    (sym (word .word-of .ensures) ∙ c .enum-told .given .1)
-
 heads-requires : tie.Need-heads-requires
 heads-requires c κs = search needs
 
-most-requires : tie.Need-most-requires
-most-requires c κs = search needs
+sub-n : tie.Need-sub-n
+sub-n c = search needs
 
-no-digits-requires : tie.Need-no-digits-requires
-no-digits-requires c κs = search needs
+every-other-requires : tie.Need-every-other-requires
+every-other-requires c κs = search needs
 
-first-bad-requires : tie.Need-first-bad-requires
-first-bad-requires c κs = search needs
+add-every-other : tie.Need-add-every-other
+add-every-other c = search needs
 
-returns-3 : tie.Need-returns-3
-returns-3 c =
-    let found = c .before in
-    let headed = found .before .before .before in
-    let word = headed .before .before .before .before in
-    answer-bad (word .before .before .before .before .args .line) _ _ _ _ _ (not-blank (word .before))
-    (sym (word .word-of .ensures) ∙ headed .before .before .spoken .given .1) (found .first-bad .ensures) (headed .heads .ensures .0)
-    (found .before .before .most .ensures) (found .before .no-digits .ensures) (c .if2 .taken)
+every-other-requires-2 : tie.Need-every-other-requires-2
+every-other-requires-2 c κs = search needs
 
-sub-with-tasks : tie.Need-sub-with-tasks
-sub-with-tasks c = heads-stand _ _ _ _ (sym (c .before .before .before .first-bad .ensures) ∙ c .before .before .if2 .left)
+periods-of-requires : tie.Need-periods-of-requires
+periods-of-requires c κs = search needs
 
-with-tasks-requires : tie.Need-with-tasks-requires
-with-tasks-requires c κs = search needs
+costs-of-requires : tie.Need-costs-of-requires
+costs-of-requires c κs = search needs
 
-returns-4 : tie.Need-returns-4
-returns-4 c =
-    let found = c .before .before .before .before .before .before in
-    let headed = found .before .before .before in
-    let word = headed .before .before .before .before in
-    answer-asked (word .before .before .before .before .args .line) _ _ _ _ _ (not-blank (word .before))
-    (sym (word .word-of .ensures) ∙ headed .before .before .spoken .given .1) (found .first-bad .ensures) (headed .heads .ensures .0)
-    (found .before .before .most .ensures) (found .before .no-digits .ensures) _ (c .before .before .before .before .before .if2 .left)
-    (c .with-tasks .ensures)
+array-read-put-to-shares : tie.Need-array-read-put-to-shares
+array-read-put-to-shares c = search needs
+
+array-read-put-to-shares-2 : tie.Need-array-read-put-to-shares-2
+array-read-put-to-shares-2 c = search needs
+
+array-read-put-to-shares-3 : tie.Need-array-read-put-to-shares-3
+array-read-put-to-shares-3 c = search needs
+
+array-share-prefix-periods : tie.Need-array-share-prefix-periods
+array-share-prefix-periods c = search needs
+
+slice-aggregate-put-to-shares : tie.Need-slice-aggregate-put-to-shares
+slice-aggregate-put-to-shares c = sym (length-take-le _ _ (omega arith))
+
+array-share-prefix-costs : tie.Need-array-share-prefix-costs
+array-share-prefix-costs c = search needs
+
+slice-aggregate-put-to-shares-2 : tie.Need-slice-aggregate-put-to-shares-2
+slice-aggregate-put-to-shares-2 c = sym (length-take-le _ _ (omega arith))
+
+put-to-shares-requires : tie.Need-put-to-shares-requires
+put-to-shares-requires c κs = search needs
+
+returns : tie.Need-returns
+returns c =
+    let a = c .before .before .before .before .before .before .before .before .before .before .args in
+    let h = c .before .before .before .before .before .before .before .before .before .heads .ensures in
+    asked-reply (a .word) (a .t2) (a .count) (c .before .before .before .before .before .before .before .before .before .heads .result) (c .before .before .before .before .periods-of .result) (c .before .before .before .costs-of .result) (c .before .before .before .before .before .before .before .every-other .result)
+    (c .before .before .before .before .before .every-other2 .result) _ (h .0) (c .before .before .before .before .periods-of .ensures .0) (c .before .before .before .costs-of .ensures .0) (omega arith) (omega arith)
+    (c .before .before .before .before .before .before .before .every-other .ensures) (c .before .before .before .before .before .every-other2 .ensures) (c .before .before .before .before .before .before .before .before .before .before .pre) (c .put-to-shares .ensures)
 
 pub asked-spec : {M : Type 1} → statement M
 asked-spec =
     tie.close
     (tie.spec
-    is-blank-requires
-    returns
-    word-of-requires
-    enum-known-spoken
-    enum-told
-    returns-2
     heads-requires
-    most-requires
-    no-digits-requires
-    first-bad-requires
-    returns-3
-    sub-with-tasks
-    with-tasks-requires
-    returns-4)
+    sub-n
+    every-other-requires
+    add-every-other
+    every-other-requires-2
+    periods-of-requires
+    costs-of-requires
+    array-read-put-to-shares
+    array-read-put-to-shares-2
+    array-read-put-to-shares-3
+    array-share-prefix-periods
+    slice-aggregate-put-to-shares
+    array-share-prefix-costs
+    slice-aggregate-put-to-shares-2
+    put-to-shares-requires
+    returns)
