@@ -16,7 +16,8 @@ use Rattle.reads.specs.declared.Standing.the-variants.{GoesOn, WriteFail
 use Rattle.reads.specs.Reads.{Bytes, Read, came, toServe, lastBytes, isZero, atEnd, isBelow, hasFailed}
 use Rattle.reads.specs.Program.{Program, afterReads, EachGoesOn, Ran}
 use Rattle.reads.proofs.Reasons.{number}
-use Rattle.reads.proofs.Rounds.{new, serves}
+use Rattle.reads.proofs.Brought.{bytes-behind}
+use Rattle.reads.proofs.Rounds.{new, serves, filled, filled-size, filled-front, filled-answer}
 
 -- between two rounds: the reads so far, and the bytes that wait, `held` of them from `offset` on, stand in front of the buffer
 pub record Under {R : Type 0} (p : Program R) (offset held : R → ℕ) (r : R) (input : List ℕ) : Type 0 where
@@ -185,3 +186,19 @@ module _ {R : Type 0} {p : Program R} {SoFar : List ℕ → R → Type 0} {offse
     -- the run ends with the round, or goes on from it
     pub run-step : ((p .standing-of next ≡ GoesOn → ⊥) → Ran p next) × (p .standing-of next ≡ GoesOn → Further)
     run-step = (λ ends. record { reads = all; each-goes-on = each; ends = ends; served = ended told }, λ goes. went-on goes told)
+
+  -- the same where a read filled a buffer of n bytes behind the bytes held, and left `part` there
+  pub read-step : (n : ℕ) (r next : R) (before part after : List ℕ) (got answer : ℤ) (u : Under p offset held r before) (low : held r < n)
+      (size : n ≡ length before) (kept : length part ≡ length (take (n - held r) (drop (held r) before))) → answer ≡ got
+      → Moved (length (take (n - held r) (drop (held r) before))) got → Bytes (filled n (held r) before part)
+      → (p .standing-of next ≡ WriteFailed) ⊎ (next ≡ round r (toServe (filled n (held r) before part) (held r) answer) answer)
+      → (p .standing-of next ≡ GoesOn
+      → take (held next) after ≡ lastBytes (held next) (toServe (filled n (held r) before part) (held r) answer))
+      → ((p .standing-of next ≡ GoesOn → ⊥) → Ran p next)
+      × (p .standing-of next ≡ GoesOn → (offset r + held r < offset next + held next) × Under p offset held next after)
+  read-step n r next before part after got answer u low size kept same moved bytes told rest =
+      let within : held r ≤ n = omega arith in
+      let buffer : List ℕ = filled n (held r) before part in
+      run-step r next before buffer after answer u (omega (arith, filled-size n (held r) before part within size kept))
+      (bytes-behind (held r) buffer bytes) (filled-answer n (held r) before part within size kept got answer same moved)
+      (filled-front n (held r) before part within size kept) told rest
