@@ -23,7 +23,7 @@ const USAGE: &str = "usage: bench COMMAND
   card plain|twin       the program `card` in place: event records to lines
   records N MIX CALLS   the calls of `calls` as event records (MIX: 0 mixed, 1 busy, 2 thirds,
                         3 leaving, 4 to 6 with gaps, so that 2, 4 or 8 fall due at once)
-  sizing twin           the program `sizing` in place: best queries alone
+  sizing twin           the program `sizing` in place: best and aligned best queries alone
   time-sizing PROGRAM [--seed S] [--families N] [--changes N] [--rounds N] [--plain S] [--full 1]";
 
 /// The fifteen digits: four for the VCPUs, one for the mix, ten for the calls.

@@ -1,5 +1,6 @@
 //! `compare-sizing`: the given program and this one on the same random queries.
 
+use crate::aligned_facts;
 use crate::long_lines::{self, CUTS};
 use crate::pipe::{self, Part};
 use crate::queries::Queries;
@@ -9,7 +10,7 @@ use crate::sizing::{self, Answer, Reader};
 use std::time::Duration;
 
 /// Inputs whose end or layout matters, each run alone.
-pub const ENDS: [&[u8]; 20] = [
+pub const ENDS: [&[u8]; 27] = [
     b"",
     b"\n",
     b"\r\n",
@@ -30,6 +31,13 @@ pub const ENDS: [&[u8]; 20] = [
     b"help 1 x",
     b"help\nhelp x\nhelp\r\n",
     b"helpp\nHELP\nhel",
+    b"aligned",
+    b"aligned ",
+    b"aligned\r\n",
+    b"aligned best 9 5 1 10 3",
+    b"aligned supply 4 3 7\r",
+    b"aligned help\naligned demand 2 5 5 1 10 3\naligned aligned best 9 5 1 10 3\n",
+    b"aligned least 5 5 1 10 3\nleast 5 5 1 10 3\naligned \nleast 5 5 1 10 3\n",
 ];
 
 pub struct Plan {
@@ -73,7 +81,7 @@ pub fn ask_all(seed: u64, count: u64, reached: &mut Reached) -> Vec<Asked> {
     all
 }
 
-fn shown(bytes: &[u8]) -> String {
+pub fn shown(bytes: &[u8]) -> String {
     let text = bytes.escape_ascii().to_string();
     if text.len() <= 2000 {
         return text;
@@ -104,7 +112,7 @@ pub fn first_difference(asked: &[Asked], output: &[u8]) -> Option<String> {
     (!rest.is_empty()).then(|| format!("more than {number} answers: {}", shown(rest)))
 }
 
-fn agree(what: &str, theirs: &[u8], mine: &[u8]) -> Result<(), String> {
+pub fn agree(what: &str, theirs: &[u8], mine: &[u8]) -> Result<(), String> {
     if theirs == mine {
         return Ok(());
     }
@@ -172,8 +180,16 @@ fn compare_ends(program: &str, limit: Duration) -> Result<(), String> {
 
 /// Each line is answered before the next one is sent.
 fn compare_talk(program: &str) -> Result<(), String> {
-    let lines =
-        ["supply 4 3 7\n", "\n", "best 5 5 1 10 3\r\n", "sup\n", "help\n", "help x\n", "least 5 2 2 4 1\n"];
+    let lines = [
+        "supply 4 3 7\n",
+        "\n",
+        "best 5 5 1 10 3\r\n",
+        "sup\n",
+        "help\n",
+        "aligned best 9 5 1 10 3\n",
+        "help x\n",
+        "least 5 2 2 4 1\n",
+    ];
     let mut parts = Vec::new();
     let mut mine = Vec::new();
     for line in lines {
@@ -196,7 +212,8 @@ pub fn run(plan: &Plan) -> Result<String, String> {
     }
     let cases = query_cases::asked();
     reached.demand(&cases, plan.seed, plan.list)?;
-    println!("{}", reached.refusals());
+    let lists = aligned_facts::check_all(&asked)?;
+    println!("{}; the facts of the aligned form hold on {lists} lists", reached.refusals());
     Ok(format!("compare-sizing: {} queries agree, {} cases reached", asked.len(), cases.len()))
 }
 

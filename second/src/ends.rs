@@ -1,5 +1,5 @@
-//! `ends-card`, `ends-sizing` and `ends-usage`: how a program ends where it cannot read or write. A read
-//! or write that fails ends it with a line on standard error, and a failed read is no end
+//! `ends-card`, `ends-sizing`, `ends-sales` and `ends-usage`: how a program ends where it cannot read or
+//! write. A read or write that fails ends it with a line on standard error, and a failed read is no end
 //! of input; a reader that is gone ends it by SIGPIPE and without a line. It has to end
 //! though more input may come.
 
@@ -11,7 +11,7 @@ use std::fs::{self, File, OpenOptions};
 use std::io::{self, BufRead, BufReader, Write};
 use std::os::unix::fs::OpenOptionsExt;
 use std::os::unix::process::ExitStatusExt;
-use std::process::{Child, Command, Stdio};
+use std::process::{Child, ChildStdin, Command, Stdio};
 use std::sync::atomic::{AtomicU32, Ordering};
 use std::time::{Duration, Instant};
 
@@ -28,6 +28,8 @@ struct Subject<'a> {
     lines: String,
     /// The beginning of more, which only the end of the input would let it answer.
     begun: Vec<u8>,
+    /// It writes nothing before its input ends.
+    waits: bool,
     limit: Duration,
 }
 
@@ -44,7 +46,8 @@ pub fn card(program: &str, limit: Duration) -> Result<String, String> {
     let answered = words::to_records("admit 0 id 257 T 10 C 3 pr 1\nwake 0 id 257\ntick 3\n")?;
     let lines = Card::new().take(&answered);
     let begun = words::to_records("tick 4\n")?[..7].to_vec();
-    let subject = Subject { command: vec![program], name: "card", answered, lines, begun, limit };
+    let subject =
+        Subject { command: vec![program], name: "card", answered, lines, begun, waits: false, limit };
     Ok(format!("ends-card: {} cases agree", subject.try_all()?))
 }
 
@@ -54,7 +57,8 @@ pub fn sizing(program: &str, limit: Duration) -> Result<String, String> {
     let answers = answered.iter().filter_map(|&byte| reader.take(byte));
     let lines = answers.map(|answer| answer.line() + "\n").collect();
     let begun = b"supply 4 3 2".to_vec();
-    let subject = Subject { command: vec![program], name: "sizing", answered, lines, begun, limit };
+    let subject =
+        Subject { command: vec![program], name: "sizing", answered, lines, begun, waits: false, limit };
     Ok(format!("ends-sizing: {} cases agree", subject.try_all()?))
 }
 
@@ -66,12 +70,25 @@ pub fn usage(program: &str, limit: Duration) -> Result<String, String> {
     let begun = words::to_records("tick 4\n")?[..7].to_vec();
     let bad = [&records[..], &[9, 0, 0]].concat();
     let (command, name, lines) = (vec![program], "usage", String::new());
-    let reads = Subject { command, name, answered: records, lines, begun, limit };
+    let reads = Subject { command, name, answered: records, lines, begun, waits: false, limit };
     let writes =
         Subject { command: vec![program], lines: String::new(), answered: bad, begun: Vec::new(), ..reads };
+    Ok(format!("ends-usage: {} cases agree", said_at_the_end(&reads, &writes)?))
+}
+
+/// It too says nothing before its reading ends, and only the end of its input ends that.
+pub fn sales(program: &str, limit: Duration) -> Result<String, String> {
+    let (answered, begun) = (b"least 5\n5 1\n10 3\n".to_vec(), b"15 1".to_vec());
+    let (command, name, lines) = (vec![program], "sales", String::new());
+    let subject = Subject { command, name, answered, lines, begun, waits: true, limit };
+    Ok(format!("ends-sales: {} cases agree", said_at_the_end(&subject, &subject)?))
+}
+
+/// A program that says nothing while it reads: one subject whose reads fail, and one whose writes do.
+fn said_at_the_end(reads: &Subject, writes: &Subject) -> Cases {
     let cases = reads.failed_reads()? + reads.input_not_there_yet()? + writes.failed_writes()?;
     writes.gone_reader("a reader that is gone", false)?;
-    Ok(format!("ends-usage: {} cases agree", cases + 1))
+    Ok(cases + 1)
 }
 
 type Cases = Result<usize, String>;
@@ -146,11 +163,16 @@ impl Subject<'_> {
         Ok(cases.len())
     }
 
-    /// The input stays open.
+    /// The input, as it stays open for a program that does not wait for its end.
+    fn left_open(&self, input: ChildStdin) -> Option<ChildStdin> {
+        (!self.waits).then_some(input)
+    }
+
     fn try_output(&self, case: &str, output: Stdio) -> Result<(), String> {
         let mut child = pipe::start(&self.command, Stdio::piped(), output)?;
         let mut to = child.stdin.take().expect("a pipe was asked for");
         to.write_all(&self.answered).map_err(told)?;
+        let _to = self.left_open(to);
         agree(case, &self.ended(case, child)?, &self.failed("", "write"))
     }
 
@@ -184,6 +206,7 @@ impl Subject<'_> {
         drop(from);
         // One that has met the closed pipe already takes no more.
         to.write_all(&self.answered).ok();
+        let _to = self.left_open(to);
         let meant =
             End { output: String::new(), complaint: String::new(), signal: Some(BROKEN_PIPE), code: None };
         agree(case, &self.ended(case, child)?, &meant)
@@ -242,6 +265,7 @@ mod tests {
             answered: b"a\nb\n".to_vec(),
             lines: "a\nb\n".to_string(),
             begun: b"c".to_vec(),
+            waits: false,
             limit,
         }
     }
@@ -264,6 +288,29 @@ mod tests {
     #[test]
     fn one_that_ends_as_it_should_passes() {
         assert_eq!(subject(&script("", WRITE, READ)).try_all(), Ok(12));
+    }
+
+    /// One that reads all before it writes, and what it does where that fails.
+    fn at_the_end(failed_read: &str) -> String {
+        let write = WRITE.replace("exit 0", "true");
+        format!("all=$(cat 2>/dev/null) || {{ {failed_read} }}; echo \"$all\" 2>/dev/null || {write}")
+    }
+
+    fn waiting_for_the_end(script: &str) -> Subject<'_> {
+        Subject { lines: String::new(), waits: true, ..subject(script) }
+    }
+
+    #[test]
+    fn one_that_writes_at_the_end_passes() {
+        let right = at_the_end("echo 'echo: a read failed' >&2; exit 0;");
+        let right = waiting_for_the_end(&right);
+        assert_eq!(said_at_the_end(&right, &right), Ok(11));
+        let silent = at_the_end("exit 0;");
+        let silent = waiting_for_the_end(&silent);
+        is_seen(said_at_the_end(&silent, &silent), "a directory as input");
+        let goes_on = at_the_end("true;");
+        let goes_on = waiting_for_the_end(&goes_on);
+        is_seen(said_at_the_end(&goes_on, &goes_on), "a directory as input");
     }
 
     #[test]

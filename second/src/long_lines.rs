@@ -71,7 +71,7 @@ fn in_a_row() -> Vec<Long> {
 }
 
 fn of_one_fill() -> Vec<Long> {
-    let fills: [(&[u8], &[u8]); 7] = [
+    let fills: [(&[u8], &[u8]); 9] = [
         (b"", b"x"),
         (b"", b" "),
         (b"", b"\r"),
@@ -79,6 +79,8 @@ fn of_one_fill() -> Vec<Long> {
         (b"least 5", b" 5 1"),
         (b"best 5 5 1 10 3", b" "),
         (b"help", b" "),
+        (b"aligned supply 4 3 ", b"0"),
+        (b"aligned", b" "),
     ];
     let both = |(front, fill): (&[u8], &[u8])| {
         let what = format!("\"{}{}\" and so on", front.escape_ascii(), fill.escape_ascii());

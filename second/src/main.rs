@@ -1,14 +1,18 @@
 //! The second program: an independent reading of the scope paper, and what compares
 //! the proved programs with it.
 
+mod aligned_cases;
+mod aligned_facts;
 mod brought;
 mod card_cases;
 mod compare_card;
+mod compare_sales;
 mod compare_sizing;
 mod compare_usage;
 mod endings;
 mod ends;
 mod generate;
+mod harmonic;
 mod held;
 mod history;
 mod kind_cases;
@@ -28,9 +32,13 @@ mod records;
 mod return_cases;
 mod returns;
 mod row_cases;
+mod sales;
+mod sales_cases;
+mod sales_inputs;
 mod script;
 mod seen_cases;
 mod seen_totals;
+mod sheets;
 mod sizing;
 mod stay_cases;
 mod stays;
@@ -45,6 +53,8 @@ mod usage_table;
 mod ways;
 mod words;
 #[cfg(test)]
+mod wrong_aligned;
+#[cfg(test)]
 mod wrong_cards;
 #[cfg(test)]
 mod wrong_memories;
@@ -52,6 +62,8 @@ mod wrong_memories;
 mod wrong_replies;
 #[cfg(test)]
 mod wrong_returns;
+#[cfg(test)]
+mod wrong_sales;
 #[cfg(test)]
 mod wrong_sizings;
 #[cfg(test)]
@@ -67,6 +79,7 @@ use std::time::Duration;
 const USAGE: &str = "usage: second COMMAND
 from standard input to standard output:
   sizing      queries to answers, by the plain reading
+  sales       a question and a sheet of the old tool to the answers in both forms
   card        event records to lines
   usage-lines event records to the totals at their end
   words       records in words to bytes, each line as it comes; # begins a comment; a bad
@@ -74,9 +87,11 @@ from standard input to standard output:
   unwords     bytes to records in words
 with the program to try:
   compare-sizing PROGRAM [--seed S] [--count N] [--list 1] [--wait S]
+  compare-sales PROGRAM [--seed S] [--count N] [--list 1] [--wait S]
   compare-card PROGRAM [--seed S] [--records N] [--list 1] [--wait S]
   compare-usage PROGRAM [--seed S] [--runs N] [--list 1] [--wait S]
   ends-sizing PROGRAM [--wait S]
+  ends-sales PROGRAM [--wait S]
   ends-card PROGRAM [--wait S]
   ends-usage PROGRAM [--wait S]
   outside PROGRAM [--seed S] [--runs N]
@@ -106,8 +121,8 @@ fn main() {
 
 fn run(command: &str, options: &Options) -> Result<(), String> {
     match command {
-        "compare-sizing" | "compare-card" | "compare-usage" | "ends-sizing" | "ends-card" | "ends-usage"
-        | "outside" => {
+        "compare-sizing" | "compare-sales" | "compare-card" | "compare-usage" | "ends-sizing"
+        | "ends-sales" | "ends-card" | "ends-usage" | "outside" => {
             println!("{}", try_program(command, options)?);
             Ok(())
         }
@@ -131,6 +146,7 @@ fn filter(command: &str) -> io::Result<Result<(), String>> {
     let (input, mut output) = (io::stdin().lock(), io::stdout().lock());
     match command {
         "sizing" => sizing::run(input, output)?,
+        "sales" => sales::run(input, output)?,
         "card" => lines::run(input, output)?,
         "usage-lines" => usage_lines::run(input, output)?,
         "words" => return words::run(input, output, io::stderr(), io::stdin().is_terminal()),
@@ -150,8 +166,12 @@ fn try_program(command: &str, options: &Options) -> Result<String, String> {
     let wait = Duration::from_secs(options.number("wait", pipe::PATIENCE.as_secs()));
     match command {
         "compare-sizing" => {
-            let count = options.number("count", 100_000);
+            let count = options.number("count", 200_000);
             compare_sizing::run(&compare_sizing::Plan { program, seed, count, list, wait })
+        }
+        "compare-sales" => {
+            let count = options.number("count", 3000);
+            compare_sales::run(&compare_sales::Plan { program, seed, count, list, wait })
         }
         "compare-card" => {
             let records = options.number("records", compare_card::RECORDS);
@@ -162,6 +182,7 @@ fn try_program(command: &str, options: &Options) -> Result<String, String> {
             compare_usage::run(&compare_usage::Plan { program, seed, runs, list, wait })
         }
         "ends-sizing" => ends::sizing(&program, wait),
+        "ends-sales" => ends::sales(&program, wait),
         "ends-card" => ends::card(&program, wait),
         "ends-usage" => ends::usage(&program, wait),
         _ => {

@@ -1,10 +1,19 @@
-//! Random sizing queries: small ones mostly, some at the limits, some refused, some broken.
+//! Random sizing queries: small ones mostly, some at the limits, some refused, some broken; half
+//! of them in the aligned form, most of these with lists made for it.
 
+use crate::harmonic::Lists;
 use crate::long_lines;
 use crate::random::Random;
+use crate::shares::Form;
 use crate::sizing::LONGEST_LINE;
 
 const WORDS: [&str; 5] = ["supply", "demand", "check", "least", "best"];
+
+/// The words that have an aligned form.
+const ALIGNED_WORDS: [&str; 4] = ["supply", "check", "least", "best"];
+
+/// The first stands alone or before itself.
+pub const NEAR_ALIGNED: [&str; 5] = ["aligned", "alignedd", "Aligned", "aligne", "aligned\t"];
 
 const NO_WORDS: [&[u8]; 17] = [
     b"",
@@ -35,9 +44,11 @@ const LONG_EVERY: u64 = 1500;
 /// The bytes of those, without a newline: around the longest line, and more than twice that.
 pub const LONG: [u64; 5] = [LONGEST_LINE - 1, LONGEST_LINE, LONGEST_LINE + 1, LONGEST_LINE + 2, 140_000];
 
-/// How those begin and go on; they end with a digit. The first is answered by `ok`.
-const LONG_FILLS: [(&[u8], &[u8]); 5] = [
+/// How those begin and go on; they end with a digit. The first two are answered by `ok`.
+const LONG_FILLS: [(&[u8], &[u8]); 7] = [
     (b"supply 4 3 ", b"0"),
+    (b"aligned supply 4 3 ", b"0"),
+    (b"", b"aligned "),
     (b"least 5", b" 5 1"),
     (b"supply", b"y"),
     (b"help ", b"\r"),
@@ -53,13 +64,18 @@ struct Draft {
 
 /// A query in bytes.
 struct Text {
+    form: Form,
     word: Vec<u8>,
     fields: Vec<Vec<u8>>,
 }
 
 impl Text {
     fn line(&self) -> Vec<u8> {
-        let mut line = self.word.clone();
+        let mut line = match self.form {
+            Form::Ordinary => Vec::new(),
+            Form::Aligned => b"aligned ".to_vec(),
+        };
+        line.extend(&self.word);
         for field in &self.fields {
             line.push(b' ');
             line.extend(field);
@@ -75,11 +91,12 @@ impl Draft {
             numbers.extend([*period, *cost]);
         }
         let fields = numbers.iter().map(|x| x.to_string().into_bytes()).collect();
-        Text { word: self.word.as_bytes().to_vec(), fields }
+        Text { form: Form::Ordinary, word: self.word.as_bytes().to_vec(), fields }
     }
 }
 
-/// An upper bound for the steps that the plain reading takes over a line.
+/// About the steps that the plain reading takes over a line at most. A search for one least budget
+/// ends half way on average.
 fn weight(text: &Text) -> u64 {
     let number = |field: &Vec<u8>| std::str::from_utf8(field).ok()?.parse().ok();
     let Some(numbers) = text.fields.iter().map(number).collect::<Option<Vec<u64>>>() else {
@@ -87,7 +104,11 @@ fn weight(text: &Text) -> u64 {
     };
     let (times, skip) = match (&text.word[..], numbers.first()) {
         (b"check", _) => (1, 2),
-        (b"least", Some(&p)) if p <= 2000 => (p, 1),
+        (b"least", Some(&p)) if p <= 2000 => (p.div_ceil(2), 1),
+        // Only the divisors of the first period are tried.
+        (b"best", Some(&p)) if p <= 2000 && text.form == Form::Aligned => {
+            (4 * numbers.get(1).map_or(0, |&first| first.min(p)), 1)
+        }
         (b"best", Some(&p)) if p <= 2000 => (p * p / 2, 1),
         _ => return 0,
     };
@@ -115,9 +136,9 @@ impl Queries {
         if self.made % LONG_EVERY == 0 {
             return self.long_line(self.made / LONG_EVERY - 1);
         }
-        let most = if self.random.once_in(2000) { SELDOM_WEIGHT } else { USUAL_WEIGHT };
+        let most = if self.random.once_in(4000) { SELDOM_WEIGHT } else { USUAL_WEIGHT };
         loop {
-            let text = self.query();
+            let text = if self.random.once_in(2) { self.aligned() } else { self.query() };
             if weight(&text) <= most {
                 let mut line = text.line();
                 line.extend(self.ending());
@@ -153,12 +174,103 @@ impl Queries {
             55..=64 => self.at_limits().text(),
             65..=74 => self.refused().text(),
             75..=79 => self.bad_tasks().text(),
-            80..=87 => self.odd_numbers(),
-            88..=95 => self.broken(),
+            80..=87 => {
+                let text = self.small().text();
+                self.odd_numbers(text)
+            }
+            88..=95 => {
+                let draft = if self.random.once_in(3) { self.refused() } else { self.small() };
+                self.broken(draft.text())
+            }
             96..=97 => self.long_list(),
             98 => self.no_word(),
-            _ => Text { word: Vec::new(), fields: Vec::new() },
+            _ => Text { form: Form::Ordinary, word: Vec::new(), fields: Vec::new() },
         }
+    }
+
+    /// With lists made for the aligned form, aligned or nearly so, and any other query.
+    fn aligned(&mut self) -> Text {
+        let text = match self.random.below(100) {
+            0..=24 => self.harmonic(false).text(),
+            25..=31 => self.harmonic(true).text(),
+            32..=46 => self.not_aligned().text(),
+            47..=50 => {
+                let text = self.harmonic(false).text();
+                self.odd_numbers(text)
+            }
+            51..=55 => {
+                let text = self.harmonic(false).text();
+                self.broken(text)
+            }
+            56..=62 => self.bad_tasks().text(),
+            63..=66 => self.long_list(),
+            67..=68 => return self.nearly_aligned(),
+            69 => self.behind("aligned"),
+            _ => self.query(),
+        };
+        Text { form: Form::Aligned, ..text }
+    }
+
+    /// Periods that divide each other, and mostly a P that divides them.
+    fn harmonic(&mut self, at_limits: bool) -> Draft {
+        let word = *self.random.pick(&ALIGNED_WORDS);
+        let tasks = if at_limits { self.lists().at_limits() } else { self.lists().small() };
+        let p =
+            if self.random.once_in(8) { self.lists().other(&tasks) } else { self.lists().divisor(&tasks) };
+        self.aligned_draft(word, p, tasks)
+    }
+
+    /// Two neighbours that do not divide each other; or P does not; now and then P, B or the
+    /// tasks are out of range too.
+    fn not_aligned(&mut self) -> Draft {
+        let word = *self.random.pick(&ALIGNED_WORDS[1..]);
+        let apart = !self.random.once_in(4);
+        let tasks = if apart { self.lists().apart() } else { self.lists().small() };
+        let p = match self.random.below(3) {
+            0 => self.lists().divisor(&tasks),
+            1 => 1,
+            _ => self.lists().other(&tasks),
+        };
+        let mut draft = self.aligned_draft(word, p, tasks);
+        match self.random.below(12) {
+            0..=1 => self.spoil_lead(&mut draft),
+            2 => self.spoil_tasks(&mut draft),
+            _ => (),
+        }
+        draft
+    }
+
+    fn aligned_draft(&mut self, word: &'static str, p: u64, tasks: Vec<(u64, u64)>) -> Draft {
+        let b = self.lists().budget(&tasks, p);
+        let p_max = *self.random.pick(&[p, p + 1, 2 * p + 1, 2 * tasks[0].0, 12, 2000]);
+        let (lead, tasks) = match word {
+            "supply" => (vec![p, b, self.lists().length(p, b)], Vec::new()),
+            "check" => (vec![p, b], tasks),
+            "least" => (vec![p], tasks),
+            _ => (vec![p_max.min(2000)], tasks),
+        };
+        Draft { word, lead, tasks }
+    }
+
+    fn lists(&mut self) -> Lists<'_> {
+        Lists { random: &mut self.random }
+    }
+
+    /// `aligned` alone, or what is nearly that before a good query.
+    fn nearly_aligned(&mut self) -> Text {
+        let near = *self.random.pick(&NEAR_ALIGNED);
+        let mut text = self.behind(near);
+        if near == "aligned" {
+            text.fields.clear();
+        }
+        text
+    }
+
+    /// A good query, but for what stands before it.
+    fn behind(&mut self, front: &str) -> Text {
+        let mut text = self.harmonic(false).text();
+        text.fields.insert(0, text.word);
+        Text { word: front.as_bytes().to_vec(), ..text }
     }
 
     fn tasks(&mut self, n: u64, longest: u64) -> Vec<(u64, u64)> {
@@ -314,8 +426,7 @@ impl Queries {
     }
 
     /// Leading zeros, and numbers that a narrow type would take for small ones.
-    fn odd_numbers(&mut self) -> Text {
-        let mut text = self.small().text();
+    fn odd_numbers(&mut self, mut text: Text) -> Text {
         let place = self.random.index(text.fields.len());
         let field = &mut text.fields[place];
         let small: u128 = String::from_utf8_lossy(field).parse().unwrap();
@@ -331,8 +442,7 @@ impl Queries {
     }
 
     /// Fields that are missing, too many, empty or no number.
-    fn broken(&mut self) -> Text {
-        let mut text = if self.random.once_in(3) { self.refused().text() } else { self.small().text() };
+    fn broken(&mut self, mut text: Text) -> Text {
         for _ in 0..self.random.between(1, 2) {
             self.break_field(&mut text);
         }
@@ -376,7 +486,7 @@ impl Queries {
             4 => vec![self.random.pick(&NO_NUMBERS).to_vec()],
             _ => (0..several).map(|_| self.random.pick(&[&b"1"[..], b"", b"x"]).to_vec()).collect(),
         };
-        Text { word: b"help".to_vec(), fields }
+        Text { form: Form::Ordinary, word: b"help".to_vec(), fields }
     }
 
     fn no_word(&mut self) -> Text {

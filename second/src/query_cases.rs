@@ -1,24 +1,53 @@
 //! Which cases a sizing query meets, told from its bytes and its answer.
 
-use crate::queries::LONG;
+use crate::aligned_cases;
+use crate::queries::{LONG, NEAR_ALIGNED};
 use crate::reached::Reached;
 use crate::refusal::Refusal;
-use crate::shares::{self, Tasks};
+use crate::shares::{self, Form, List};
 use crate::sizing::{Answer, LONGEST_LINE};
 
 /// A line taken apart once more, the whole of it at hand.
-struct Parts<'a> {
-    word: &'a str,
+pub struct Parts<'a> {
+    pub form: Form,
+    pub word: &'a str,
+    bytes: &'a [u8],
     fields: Vec<&'a [u8]>,
 }
 
-fn take_apart(line: &[u8]) -> Parts<'_> {
-    let mut pieces = line.split(|&byte| byte == b' ');
-    let word = std::str::from_utf8(pieces.next().unwrap_or(b"")).unwrap_or("?");
-    Parts { word, fields: pieces.collect() }
+/// The line has no newline, and no carriage return that is dropped.
+pub fn take_apart(line: &[u8]) -> Parts<'_> {
+    let mut pieces: Vec<&[u8]> = line.split(|&byte| byte == b' ').collect();
+    let is_aligned = pieces.len() > 1 && pieces[0] == b"aligned";
+    let form = if is_aligned { Form::Aligned } else { Form::Ordinary };
+    let fields = pieces.split_off(if is_aligned { 2 } else { 1 });
+    let bytes = pieces[pieces.len() - 1];
+    Parts { form, word: std::str::from_utf8(bytes).unwrap_or("?"), bytes, fields }
+}
+
+/// Without its newline and one carriage return.
+pub fn bare(line: &[u8]) -> &[u8] {
+    let line = line.strip_suffix(b"\n").unwrap_or(line);
+    line.strip_suffix(b"\r").unwrap_or(line)
 }
 
 impl Parts<'_> {
+    /// What stands before the cases of an aligned line: they are counted apart.
+    fn prefix(&self) -> &'static str {
+        match self.form {
+            Form::Ordinary => "",
+            Form::Aligned => "aligned ",
+        }
+    }
+
+    /// The numbers before the tasks, and the tasks. What is too large for u64 is its largest.
+    pub fn lead_and_list(&self) -> (Vec<u64>, List) {
+        let narrow = |number: u128| u64::try_from(number).unwrap_or(u64::MAX);
+        let mut lead: Vec<u64> = self.numbers().into_iter().map(narrow).collect();
+        let list = lead.split_off(self.leading());
+        (lead, List::of(&list))
+    }
+
     fn leading(&self) -> usize {
         match self.word {
             "supply" => 3,
@@ -42,28 +71,30 @@ impl Parts<'_> {
 }
 
 pub fn note(line: &[u8], answer: Option<&Answer>, reached: &mut Reached) {
-    let line = line.strip_suffix(b"\n").unwrap_or(line);
-    let bare = line.strip_suffix(b"\r").unwrap_or(line);
+    let (line, bare) = (line.strip_suffix(b"\n").unwrap_or(line), bare(line));
     let Some(answer) = answer else {
         let case = if line.is_empty() { "an empty line" } else { "a carriage return alone" };
         reached.add(case);
         return;
     };
     note_length(line, answer, reached);
-    let parts = take_apart(bare);
     let answered = matches!(answer, Answer::Numbers(_) | Answer::No(_) | Answer::Help);
     reached.add_if(answered && bare.len() < line.len(), "a carriage return dropped");
     reached.add_if(bare.ends_with(b"\r"), "two carriage returns");
+    reached.add_if(bare.len() < line.len() && *answer == Answer::Help, "help with a carriage return");
+    let (parts, mut own) = (take_apart(bare), Reached::default());
     match answer {
         Answer::BadLine => reached.add("bad line"),
-        Answer::Help => {
-            reached.add(if bare.len() < line.len() { "help with a carriage return" } else { "help" })
-        }
-        Answer::BadWord => note_word(bare, reached),
-        Answer::BadField(place) => note_field(&parts, *place, reached),
-        Answer::Numbers(numbers) => note_ok(&parts, numbers, reached),
-        Answer::No(refusal) => note_row(&parts, refusal, reached),
+        Answer::Help => reached.add_if(bare.len() == line.len(), "help"),
+        Answer::BadWord => note_word(&parts, &mut own),
+        Answer::BadField(place) => note_field(&parts, *place, &mut own),
+        Answer::Numbers(numbers) => note_ok(&parts, numbers, &mut own),
+        Answer::No(refusal) => note_row(&parts, refusal, &mut own),
     }
+    if parts.form == Form::Aligned {
+        aligned_cases::note(&parts, answer, &mut own);
+    }
+    reached.join(parts.prefix(), own);
 }
 
 fn length_case(bytes: u64, carriage: bool, answer: &str) -> String {
@@ -83,15 +114,15 @@ fn note_length(line: &[u8], answer: &Answer, reached: &mut Reached) {
 
 const NEAR_HELP: [&str; 3] = ["helpp", "HELP", "hel"];
 
-fn note_word(bare: &[u8], reached: &mut Reached) {
-    let word = bare.split(|&byte| byte == b' ').next().unwrap_or(b"");
+fn note_word(parts: &Parts, reached: &mut Reached) {
+    let word = parts.bytes;
     let words: [&[u8]; 5] = [b"supply", b"demand", b"check", b"least", b"best"];
     reached.add("bad word");
     reached.add_if(word.is_empty(), "bad word: empty");
     reached.add_if(words.iter().any(|w| word.len() > w.len() && word.starts_with(w)), "bad word: longer");
     reached.add_if(words.iter().any(|w| word.len() < w.len() && w.starts_with(word)), "bad word: shorter");
     reached.add_if(words.contains(&&word.to_ascii_lowercase()[..]), "bad word: capitals");
-    for near in NEAR_HELP {
+    for near in NEAR_HELP.iter().chain(&NEAR_ALIGNED) {
         reached.add_if(word == near.as_bytes(), &format!("bad word: {near}"));
     }
 }
@@ -157,16 +188,15 @@ fn note_ok(parts: &Parts, answer: &[u64], reached: &mut Reached) {
         reached.add_if(numbers[0] * 2 == tasks.len() as u128, "demand of the last place");
     }
     if word == "best" && numbers[0] <= 20 {
-        note_tie(tasks, numbers[0] as u64, answer, reached);
+        note_tie(parts, answer, reached);
     }
 }
 
 /// Another period with the same fraction, each with its least budget.
-fn note_tie(list: &[u128], p_max: u64, answer: &[u64], reached: &mut Reached) {
-    let periods: Vec<u64> = list.iter().step_by(2).map(|&x| x as u64).collect();
-    let costs: Vec<u64> = list.iter().skip(1).step_by(2).map(|&x| x as u64).collect();
-    let tasks = Tasks { periods: &periods, costs: &costs };
-    let same = |p: u64| match shares::least(tasks, p) {
+fn note_tie(parts: &Parts, answer: &[u64], reached: &mut Reached) {
+    let (lead, list) = parts.lead_and_list();
+    let p_max = lead[0];
+    let same = |p: u64| match shares::least(parts.form, list.lend(), p) {
         Ok(b) => b * answer[0] == answer[1] * p,
         Err(_) => false,
     };
@@ -268,39 +298,69 @@ fn note_35(word: &str, numbers: &[u128], reached: &mut Reached) {
     reached.add_if(numbers[1] <= 2000 && numbers[0] == n + 1, "demand 35: place behind the last");
 }
 
-/// All the cases that a comparison must meet.
-pub fn asked() -> Vec<String> {
-    let mut all: Vec<String> = PLAIN.iter().map(|case| case.to_string()).collect();
-    for word in ["supply", "demand", "check", "least", "best"] {
-        all.push(format!("{word} ok"));
-        all.push(format!("{word} leading zeros"));
-        all.extend((1..=4).map(|place| format!("{word} bad field {place}")));
-        all.extend(["missing", "empty", "no number"].map(|kind| format!("{word} bad field: {kind}")));
+/// What every word has to meet.
+const OF_EACH: [&str; 9] = [
+    "ok",
+    "leading zeros",
+    "bad field 1",
+    "bad field 2",
+    "bad field 3",
+    "bad field 4",
+    "bad field: missing",
+    "bad field: empty",
+    "bad field: no number",
+];
+
+const WITH_TASKS: [&str; 9] = [
+    "no 30",
+    "no 31",
+    "no 32",
+    "no 31 1",
+    "no 31 16",
+    "no 32 2",
+    "no 32 16",
+    "sixteen tasks",
+    "task period 2000",
+];
+
+const WITH_A_PERIOD: [&str; 5] =
+    ["no 33", "resource period 1", "resource period 2000", "33: period 0", "33: period 2001"];
+
+const WITH_A_BUDGET: [&str; 3] = ["budget is the period", "33: budget 0", "33: budget above the period"];
+
+const WITH_A_LENGTH: [&str; 4] = ["no 35", "length 0", "length 2000", "35: length 2001"];
+
+/// What one word alone has to meet.
+fn own_cases(word: &str) -> &'static [&'static str] {
+    match word {
+        "supply" => &["bad field: too many"],
+        "check" => &["ok 0", "ok 1"],
+        "least" => &["no 34"],
+        "best" => &["no 34", "tie at 1", "tie below 1", "below P_max"],
+        _ => &["of the last place", "35: place 0", "35: place behind the last"],
     }
-    for word in ["demand", "check", "least", "best"] {
-        all.extend([30, 31, 32].map(|row| format!("{word} no {row}")));
-        all.push(format!("{word} sixteen tasks"));
-        all.push(format!("{word} task period 2000"));
-    }
-    for word in ["supply", "check", "least", "best"] {
-        all.push(format!("{word} no 33"));
-        all.push(format!("{word} resource period 1"));
-        all.push(format!("{word} resource period 2000"));
-        all.push(format!("{word} 33: period 0"));
-        all.push(format!("{word} 33: period 2001"));
-    }
-    for word in ["supply", "check"] {
-        all.push(format!("{word} budget is the period"));
-        all.push(format!("{word} 33: budget 0"));
-        all.push(format!("{word} 33: budget above the period"));
-    }
-    for word in ["supply", "demand"] {
-        all.push(format!("{word} no 35"));
-        all.push(format!("{word} length 0"));
-        all.push(format!("{word} length 2000"));
-        all.push(format!("{word} 35: length 2001"));
-    }
-    all.extend(asked_places().into_iter().chain(asked_lines()));
+}
+
+/// All that a word has to meet, in one form.
+fn asked_of(word: &str) -> Vec<String> {
+    let groups = [
+        (true, &OF_EACH[..]),
+        (word != "supply", &WITH_TASKS),
+        (word != "demand", &WITH_A_PERIOD),
+        (word == "supply" || word == "check", &WITH_A_BUDGET),
+        (word == "supply" || word == "demand", &WITH_A_LENGTH),
+        (true, own_cases(word)),
+    ];
+    let cases = groups.into_iter().filter(|(applies, _)| *applies).flat_map(|(_, cases)| cases);
+    cases.map(|case| format!("{word} {case}")).collect()
+}
+
+/// All that the words of one form have to meet together.
+fn asked_in_a_form(words: &[&str]) -> Vec<String> {
+    let mut all: Vec<String> = words.iter().flat_map(|word| asked_of(word)).collect();
+    all.extend(PLAIN.map(str::to_string));
+    all.extend(NEAR_HELP.map(|near| format!("bad word: {near}")));
+    all.extend(asked_places());
     all.extend((1..=34).map(|place| format!("bad field {place}")));
     for row in [31, 33, 35] {
         all.push(format!("above 2^32 no {row}"));
@@ -309,37 +369,34 @@ pub fn asked() -> Vec<String> {
     all
 }
 
-/// Every place that 31 and 32 can give, the outermost of them by every word, and one task out
-/// of range behind another.
+/// All the cases that a comparison must meet.
+pub fn asked() -> Vec<String> {
+    let mut all = asked_in_a_form(&["supply", "demand", "check", "least", "best"]);
+    all.extend(OF_LINES.map(str::to_string));
+    all.extend(asked_lengths());
+    all.extend(NEAR_ALIGNED.map(|near| format!("bad word: {near}")));
+    let aligned = asked_in_a_form(&["supply", "check", "least", "best"]);
+    all.extend(aligned.into_iter().chain(aligned_cases::asked()).map(|case| format!("aligned {case}")));
+    all
+}
+
+/// Every place that 31 and 32 can give, and one task out of range behind another.
 fn asked_places() -> Vec<String> {
     let mut all: Vec<String> = (1..=16).map(|place| format!("no 31 {place}")).collect();
     all.extend((2..=16).map(|place| format!("no 32 {place}")));
-    for word in ["demand", "check", "least", "best"] {
-        all.extend(["31 1", "31 16", "32 2", "32 16"].map(|row| format!("{word} no {row}")));
-    }
     all.extend(REASONS.iter().flat_map(|first| REASONS.map(|later| first_and_later(first, later))));
     all
 }
 
-/// Each length, without and with a carriage return, and what is nearly `help`.
-fn asked_lines() -> Vec<String> {
+/// Each length, without and with a carriage return.
+fn asked_lengths() -> Vec<String> {
     let answer = |bytes| if bytes > LONGEST_LINE { "bad line" } else { "ok" };
     let both = |bytes| [false, true].map(|carriage| length_case(bytes, carriage, answer(bytes)));
-    let near_help = NEAR_HELP.map(|near| format!("bad word: {near}"));
-    LONG.into_iter().flat_map(both).chain(near_help).collect()
+    LONG.into_iter().flat_map(both).collect()
 }
 
-const PLAIN: [&str; 47] = [
-    "least no 34",
-    "best no 34",
-    "check ok 0",
-    "check ok 1",
-    "best tie at 1",
-    "best tie below 1",
-    "best below P_max",
-    "demand of the last place",
-    "demand 35: place 0",
-    "demand 35: place behind the last",
+/// What is met in each form.
+const PLAIN: [&str; 23] = [
     "30: no tasks",
     "30: a period without its cost",
     "30: sixteen tasks and a period",
@@ -355,7 +412,6 @@ const PLAIN: [&str; 47] = [
     "31 in front of a falling period",
     "32: the first of several",
     "33 before 35",
-    "supply bad field: too many",
     "bad field behind the 34th",
     "bad field before row 33 or 35",
     "bad field in a long list",
@@ -364,6 +420,10 @@ const PLAIN: [&str; 47] = [
     "bad word: longer",
     "bad word: shorter",
     "bad word: capitals",
+];
+
+/// What is met by lines whatever their form, and by `help`, which has one alone.
+const OF_LINES: [&str; 13] = [
     "an empty line",
     "a carriage return alone",
     "a carriage return dropped",

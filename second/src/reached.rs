@@ -22,6 +22,16 @@ impl Reached {
         }
     }
 
+    /// Counts all that another one has met, under other names.
+    pub fn join(&mut self, prefix: &str, other: Reached) {
+        for (case, count) in other.counts {
+            *self.counts.entry(format!("{prefix}{case}")).or_default() += count;
+        }
+        for (number, count) in other.refusals {
+            *self.refusals.entry(number).or_default() += count;
+        }
+    }
+
     /// Counts a refusal by its number.
     pub fn add_refusal(&mut self, number: u32) {
         *self.refusals.entry(number).or_default() += 1;

@@ -1,5 +1,5 @@
-//! Shares: the section "Supply, demand, least share" and rows 30 to 35 with request 2, read plainly.
-//! The loops are the paper's own; nothing here is made fast.
+//! Shares: the section "Supply, demand, least share" and rows 30 to 36 with requests 2 and 13, read
+//! plainly. The loops are the paper's own; nothing here is made fast.
 
 use crate::refusal::{refuse, refuse_with, Refusal};
 
@@ -13,11 +13,36 @@ pub struct Interface {
     pub budget: u64,
 }
 
+/// How a task's release lies to the resource's periods: anyhow, or always at the start of one.
+#[derive(Clone, Copy, PartialEq, Eq, Debug)]
+pub enum Form {
+    Ordinary,
+    Aligned,
+}
+
 /// The tasks, lent as two lists: periods and costs.
 #[derive(Clone, Copy, Debug)]
 pub struct Tasks<'a> {
     pub periods: &'a [u64],
     pub costs: &'a [u64],
+}
+
+/// Tasks that lie nowhere else.
+pub struct List {
+    periods: Vec<u64>,
+    costs: Vec<u64>,
+}
+
+impl List {
+    /// Of period, cost, period, cost and so on. The last period may have no cost.
+    pub fn of(numbers: &[u64]) -> List {
+        let every_other = |from: usize| numbers.iter().skip(from).step_by(2).copied().collect();
+        List { periods: every_other(0), costs: every_other(1) }
+    }
+
+    pub fn lend(&self) -> Tasks<'_> {
+        Tasks { periods: &self.periods, costs: &self.costs }
+    }
 }
 
 impl Tasks<'_> {
@@ -41,6 +66,41 @@ impl Tasks<'_> {
         let (period, cost) = (self.periods[place - 1], self.costs[place - 1]);
         period < 1 || period > LARGEST_PERIOD || cost < 1 || cost > period
     }
+
+    /// Of any two periods one divides the other.
+    pub fn divide_each_other(&self) -> bool {
+        let all = self.periods;
+        let divides_or_is_divided = |a: u64, b: u64| a.is_multiple_of(b) || b.is_multiple_of(a);
+        all.iter().all(|&a| all.iter().all(|&b| divides_or_is_divided(a, b)))
+    }
+
+    pub fn are_multiples_of(&self, p: u64) -> bool {
+        self.periods.iter().all(|period| period.is_multiple_of(p))
+    }
+}
+
+impl Form {
+    /// Row 36 for the tasks alone.
+    fn validate_tasks(self, tasks: Tasks) -> Result<(), Refusal> {
+        if self == Form::Aligned && !tasks.divide_each_other() {
+            return refuse(36);
+        }
+        Ok(())
+    }
+
+    /// Row 36 for the tasks and a resource period.
+    fn validate(self, tasks: Tasks, p: u64) -> Result<(), Refusal> {
+        self.validate_tasks(tasks)?;
+        if !self.takes(tasks, p) {
+            return refuse(36);
+        }
+        Ok(())
+    }
+
+    /// The aligned form takes a resource period only where all tasks begin with one.
+    fn takes(self, tasks: Tasks, p: u64) -> bool {
+        self == Form::Ordinary || tasks.are_multiples_of(p)
+    }
 }
 
 /// Row 33 for a resource period or P_max.
@@ -60,13 +120,16 @@ fn validate_interface(period: u64, budget: u64) -> Result<(), Refusal> {
     Ok(())
 }
 
-fn supply_at(p: u64, b: u64, t: u64) -> u64 {
+fn supply_at(form: Form, p: u64, b: u64, t: u64) -> u64 {
     let g = p - b;
     if t < g {
         return 0;
     }
-    let y = (t - g) / p;
-    let taken = 2 * g + y * p;
+    let (y, gaps) = match form {
+        Form::Ordinary => ((t - g) / p, 2 * g),
+        Form::Aligned => (t / p, g),
+    };
+    let taken = gaps + y * p;
     let rest = if t > taken { t - taken } else { 0 };
     y * b + rest
 }
@@ -90,11 +153,11 @@ fn demand_at(tasks: Tasks, i: usize, t: u64) -> u64 {
 }
 
 /// For every i there is a whole t from 1 to p_i with supply at least demand.
-fn pass(tasks: Tasks, p: u64, b: u64) -> bool {
+fn pass(form: Form, tasks: Tasks, p: u64, b: u64) -> bool {
     for i in 1..=tasks.periods.len() {
         let mut met = false;
         for t in 1..=tasks.periods[i - 1] {
-            if supply_at(p, b, t) >= demand_at(tasks, i, t) {
+            if supply_at(form, p, b, t) >= demand_at(tasks, i, t) {
                 met = true;
                 break;
             }
@@ -106,10 +169,10 @@ fn pass(tasks: Tasks, p: u64, b: u64) -> bool {
     true
 }
 
-/// The smallest B from 1 to P that passes.
-fn least_at(tasks: Tasks, p: u64) -> Option<u64> {
+/// The smallest B from 1 to P that passes. No row is looked at.
+pub fn least_at(form: Form, tasks: Tasks, p: u64) -> Option<u64> {
     for b in 1..=p {
-        if pass(tasks, p, b) {
+        if pass(form, tasks, p, b) {
             return Some(b);
         }
     }
@@ -121,12 +184,12 @@ fn at_most(a: u64, b: u64, c: u64, d: u64) -> bool {
     a * d <= c * b
 }
 
-pub fn supply(p: u64, b: u64, t: u64) -> Result<u64, Refusal> {
+pub fn supply(form: Form, p: u64, b: u64, t: u64) -> Result<u64, Refusal> {
     validate_interface(p, b)?;
     if t > LONGEST {
         return refuse(35);
     }
-    Ok(supply_at(p, b, t))
+    Ok(supply_at(form, p, b, t))
 }
 
 /// The task place i counts from 1.
@@ -138,28 +201,31 @@ pub fn demand(tasks: Tasks, i: u64, t: u64) -> Result<u64, Refusal> {
     Ok(demand_at(tasks, i as usize, t))
 }
 
-pub fn check(tasks: Tasks, p: u64, b: u64) -> Result<bool, Refusal> {
+pub fn check(form: Form, tasks: Tasks, p: u64, b: u64) -> Result<bool, Refusal> {
     tasks.validate()?;
     validate_interface(p, b)?;
-    Ok(pass(tasks, p, b))
+    form.validate(tasks, p)?;
+    Ok(pass(form, tasks, p, b))
 }
 
-pub fn least(tasks: Tasks, p: u64) -> Result<u64, Refusal> {
+pub fn least(form: Form, tasks: Tasks, p: u64) -> Result<u64, Refusal> {
     tasks.validate()?;
     validate_period(p)?;
-    match least_at(tasks, p) {
+    form.validate(tasks, p)?;
+    match least_at(form, tasks, p) {
         Some(b) => Ok(b),
         None => refuse(34),
     }
 }
 
-/// The smallest B/P with B least for P; at a tie the larger P.
-pub fn best(tasks: Tasks, p_max: u64) -> Result<Interface, Refusal> {
+/// The smallest B/P with B least for P, of all P that the form takes; at a tie the larger P.
+pub fn best(form: Form, tasks: Tasks, p_max: u64) -> Result<Interface, Refusal> {
     tasks.validate()?;
     validate_period(p_max)?;
+    form.validate_tasks(tasks)?;
     let mut best: Option<Interface> = None;
-    for period in 1..=p_max {
-        let Some(budget) = least_at(tasks, period) else { continue };
+    for period in (1..=p_max).filter(|&period| form.takes(tasks, period)) {
+        let Some(budget) = least_at(form, tasks, period) else { continue };
         let better = match best {
             None => true,
             Some(old) => at_most(budget, period, old.budget, old.period),
@@ -176,10 +242,12 @@ pub fn best(tasks: Tasks, p_max: u64) -> Result<Interface, Refusal> {
 
 #[cfg(test)]
 mod tests {
+    use super::Form::{Aligned, Ordinary};
     use super::*;
 
     const W: Tasks = Tasks { periods: &[5, 10], costs: &[1, 3] };
     const FULL: Tasks = Tasks { periods: &[2, 4], costs: &[2, 1] };
+    const FORMS: [Form; 2] = [Ordinary, Aligned];
 
     fn number<T>(answer: Result<T, Refusal>) -> u32 {
         match answer {
@@ -193,41 +261,41 @@ mod tests {
 
     #[test]
     fn p1_to_p6_supply_and_demand() {
-        assert_eq!(supply(4, 3, 2), Ok(0));
-        assert_eq!(supply(4, 3, 5), Ok(3));
-        assert_eq!(supply(4, 3, 7), Ok(4));
-        assert_eq!(supply(5, 5, 9), Ok(9));
+        assert_eq!(supply(Ordinary, 4, 3, 2), Ok(0));
+        assert_eq!(supply(Ordinary, 4, 3, 5), Ok(3));
+        assert_eq!(supply(Ordinary, 4, 3, 7), Ok(4));
+        assert_eq!(supply(Ordinary, 5, 5, 9), Ok(9));
         assert_eq!(demand(W, 2, 5), Ok(4));
         assert_eq!(demand(W, 2, 6), Ok(5));
     }
 
     #[test]
     fn p7_to_p10_the_tasks_w() {
-        assert_eq!(least(W, 5), Ok(4));
-        assert_eq!(check(W, 3, 2), Ok(true));
-        assert_eq!(check(W, 4, 2), Ok(false));
-        assert_eq!(best(W, 5), Ok(Interface { period: 3, budget: 2 }));
+        assert_eq!(least(Ordinary, W, 5), Ok(4));
+        assert_eq!(check(Ordinary, W, 3, 2), Ok(true));
+        assert_eq!(check(Ordinary, W, 4, 2), Ok(false));
+        assert_eq!(best(Ordinary, W, 5), Ok(Interface { period: 3, budget: 2 }));
     }
 
     #[test]
     fn p11_no_budget_passes() {
         for p in (1..=60).chain([500, 2000]) {
-            assert_eq!(number(least(FULL, p)), 34);
+            assert_eq!(number(least(Ordinary, FULL, p)), 34);
         }
-        assert_eq!(number(best(FULL, 60)), 34);
+        assert_eq!(number(best(Ordinary, FULL, 60)), 34);
     }
 
     #[test]
     fn p12_a_tie_goes_to_the_larger_period() {
         let one = Tasks { periods: &[1], costs: &[1] };
-        assert_eq!(best(one, 3), Ok(Interface { period: 3, budget: 3 }));
+        assert_eq!(best(Ordinary, one, 3), Ok(Interface { period: 3, budget: 3 }));
     }
 
     #[test]
     fn lengths_and_places_at_their_ends() {
-        assert_eq!(supply(4, 3, 0), Ok(0));
-        assert_eq!(supply(1, 1, 2000), Ok(2000));
-        assert_eq!(number(supply(1, 1, 2001)), 35);
+        assert_eq!(supply(Ordinary, 4, 3, 0), Ok(0));
+        assert_eq!(supply(Ordinary, 1, 1, 2000), Ok(2000));
+        assert_eq!(number(supply(Ordinary, 1, 1, 2001)), 35);
         assert_eq!(demand(W, 1, 0), Ok(0));
         assert_eq!(demand(W, 2, 2000), Ok(1000));
         assert_eq!(number(demand(W, 2, 2001)), 35);
@@ -240,22 +308,26 @@ mod tests {
         let none = Tasks { periods: &[], costs: &[] };
         let uneven = Tasks { periods: &[0, 5], costs: &[1] };
         let many = Tasks { periods: &[0; 17], costs: &[1; 17] };
-        for tasks in [none, uneven, many] {
+        for (tasks, form) in
+            [none, uneven, many].into_iter().flat_map(|tasks| FORMS.map(|form| (tasks, form)))
+        {
             assert_eq!(number(demand(tasks, 0, 9999)), 30);
-            assert_eq!(number(check(tasks, 0, 0)), 30);
-            assert_eq!(number(least(tasks, 0)), 30);
-            assert_eq!(number(best(tasks, 0)), 30);
+            assert_eq!(number(check(form, tasks, 0, 0)), 30);
+            assert_eq!(number(least(form, tasks, 0)), 30);
+            assert_eq!(number(best(form, tasks, 0)), 30);
         }
     }
 
-    /// What all four say to a list, whatever row 33 or 35 would say to what stands beside it.
+    /// What all four say to a list in both forms, whatever row 33, 35 or 36 would say.
     fn refused(list: &[(u64, u64)]) -> (u32, u64) {
         let (periods, costs): (Vec<u64>, Vec<u64>) = list.iter().copied().unzip();
         let tasks = Tasks { periods: &periods, costs: &costs };
         let refusal = demand(tasks, 0, 9999).unwrap_err();
-        assert_eq!(check(tasks, 0, 0), Err(refusal));
-        assert_eq!(least(tasks, 0), Err(refusal));
-        assert_eq!(best(tasks, 0), Err(refusal));
+        for form in FORMS {
+            assert_eq!(check(form, tasks, 0, 0), Err(refusal));
+            assert_eq!(least(form, tasks, 0), Err(refusal));
+            assert_eq!(best(form, tasks, 0), Err(refusal));
+        }
         (refusal.number, refusal.detail)
     }
 
@@ -299,23 +371,77 @@ mod tests {
         }
     }
 
-    #[test]
-    fn row_33_goes_before_35_and_34() {
+    /// What a form says to tasks beside every P or B that is out of range.
+    fn is_row_33(form: Form, tasks: Tasks) {
         for (p, b) in [(0, 0), (0, 1), (5, 0), (5, 6), (2001, 1), (u64::MAX, u64::MAX)] {
-            assert_eq!(number(supply(p, b, 2001)), 33);
-            assert_eq!(number(check(FULL, p, b)), 33);
+            assert_eq!(number(supply(form, p, b, 2001)), 33);
+            assert_eq!(number(check(form, tasks, p, b)), 33);
         }
         for p in [0, 2001, u64::MAX] {
-            assert_eq!(number(least(FULL, p)), 33);
-            assert_eq!(number(best(FULL, p)), 33);
+            assert_eq!(number(least(form, tasks, p)), 33);
+            assert_eq!(number(best(form, tasks, p)), 33);
         }
+    }
+
+    #[test]
+    fn row_33_goes_before_36_35_and_34() {
+        is_row_33(Ordinary, FULL);
+        is_row_33(Aligned, FULL);
+        is_row_33(Aligned, Tasks { periods: &[2, 3], costs: &[2, 1] });
     }
 
     #[test]
     fn reading_p_i_for_p_k_would_give_another_p7() {
         let slip = |t: u64| ceiling(t, 10) * (1 + 3);
-        let met = |b: u64| (1..=10).any(|t| supply_at(5, b, t) >= slip(t));
+        let met = |b: u64| (1..=10).any(|t| supply_at(Ordinary, 5, b, t) >= slip(t));
         assert!(met(3));
-        assert!(!pass(W, 5, 3));
+        assert!(!pass(Ordinary, W, 5, 3));
+    }
+
+    #[test]
+    fn aligned_supply_by_hand() {
+        let at = |t| supply(Aligned, 4, 3, t).unwrap();
+        assert_eq!([0, 1, 2, 3, 4, 5, 6, 7, 8, 9, 10].map(at), [0, 0, 1, 2, 3, 3, 4, 5, 6, 6, 7]);
+        let at = |t| supply(Aligned, 5, 2, t).unwrap();
+        assert_eq!([0, 1, 2, 3, 4, 5, 6, 7, 8, 9, 10].map(at), [0, 0, 0, 0, 1, 2, 2, 2, 2, 3, 4]);
+        assert_eq!(supply(Aligned, 1, 1, 2000), Ok(2000));
+        assert_eq!(number(supply(Aligned, 1, 1, 2001)), 35);
+    }
+
+    /// The ordinary form has one gap more in front, and is the same behind it.
+    #[test]
+    fn aligned_supply_is_the_ordinary_one_a_gap_later() {
+        for (p, b) in (1..=25).flat_map(|p| (1..=p).map(move |b| (p, b))) {
+            let same = |t| supply_at(Aligned, p, b, t) == supply_at(Ordinary, p, b, t + p - b);
+            assert!((0..=120).all(same), "{p} {b}");
+        }
+    }
+
+    #[test]
+    fn aligned_least_check_and_best_of_w() {
+        assert_eq!([1, 5].map(|p| least(Aligned, W, p)), [Ok(1), Ok(3)]);
+        assert_eq!([2, 3].map(|b| check(Aligned, W, 5, b)), [Ok(false), Ok(true)]);
+        assert_eq!(best(Aligned, W, 4), Ok(Interface { period: 1, budget: 1 }));
+        assert_eq!(best(Aligned, W, 5), Ok(Interface { period: 5, budget: 3 }));
+        assert_eq!(best(Aligned, W, 2000), Ok(Interface { period: 5, budget: 3 }));
+        assert_eq!(number(best(Aligned, FULL, 60)), 34);
+        assert_eq!([1, 2].map(|p| number(least(Aligned, FULL, p))), [34, 34]);
+    }
+
+    /// Check and least are refused for the periods or for P, and best for the periods alone.
+    #[test]
+    fn row_36_says_that_something_is_not_aligned() {
+        let said = |periods: &[u64], p| {
+            let tasks = Tasks { periods, costs: &[1; MOST_TASKS][..periods.len()] };
+            assert_eq!(number(check(Aligned, tasks, p, 1)), number(least(Aligned, tasks, p)));
+            (number(least(Aligned, tasks, p)), number(best(Aligned, tasks, p)))
+        };
+        assert_eq!(said(&[6, 12], 3), (0, 0));
+        assert_eq!(said(&[6, 12], 4), (36, 0));
+        assert_eq!(said(&[6, 12], 12), (36, 0));
+        assert_eq!(said(&[6, 6, 15], 3), (36, 36));
+        assert_eq!(said(&[6, 9, 18], 5), (36, 36));
+        assert_eq!(said(&[2, 4, 8, 12], 1), (36, 36));
+        assert_eq!(said(&[2, 3], 1), (36, 36));
     }
 }

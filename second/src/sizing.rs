@@ -3,7 +3,7 @@
 //! is a bad line, whatever stands in it.
 
 use crate::refusal::Refusal;
-use crate::shares::{self, Tasks, MOST_TASKS};
+use crate::shares::{self, Form, List, MOST_TASKS};
 use std::io::{self, Read, Write};
 
 /// The bytes of the longest line, without its newline. A carriage return at its end counts.
@@ -11,12 +11,15 @@ pub const LONGEST_LINE: u64 = 65_535;
 
 /// The answer to `help`.
 pub const HELP: &str = "supply P B t | demand i t TASKS | check P B TASKS | least P TASKS | best PMAX TASKS \
-                        (TASKS: period cost period cost ..)";
+                        (TASKS: period cost period cost ..) | aligned before supply, check, least or best: for \
+                        tasks released at starts of a resource period";
 
 /// Two leading numbers and one task more than are allowed.
 const KEPT_FIELDS: usize = 2 + 2 * (MOST_TASKS + 1);
-/// The longest word has six bytes; a seventh shows that it is none.
-const KEPT_WORD: usize = 7;
+/// What stands before a word asked in the aligned form.
+const ALIGNED: &[u8] = b"aligned";
+/// It has seven bytes, more than any word; an eighth shows that it is none.
+const KEPT_WORD: usize = ALIGNED.len() + 1;
 
 #[derive(Clone, PartialEq, Eq, Debug)]
 pub enum Answer {
@@ -55,14 +58,15 @@ enum Word {
 }
 
 impl Word {
-    fn from(bytes: &[u8]) -> Option<Word> {
-        match bytes {
-            b"supply" => Some(Word::Supply),
-            b"demand" => Some(Word::Demand),
-            b"check" => Some(Word::Check),
-            b"least" => Some(Word::Least),
-            b"best" => Some(Word::Best),
-            b"help" => Some(Word::Help),
+    /// Demand and help have one form alone.
+    fn from(form: Form, bytes: &[u8]) -> Option<Word> {
+        match (form, bytes) {
+            (_, b"supply") => Some(Word::Supply),
+            (Form::Ordinary, b"demand") => Some(Word::Demand),
+            (_, b"check") => Some(Word::Check),
+            (_, b"least") => Some(Word::Least),
+            (_, b"best") => Some(Word::Best),
+            (Form::Ordinary, b"help") => Some(Word::Help),
             _ => None,
         }
     }
@@ -110,6 +114,7 @@ impl Field {
 /// A line as far as it has been read.
 struct Line {
     length: u64,
+    form: Form,
     word: Vec<u8>,
     open: Option<Field>,
     numbers: Vec<u64>,
@@ -119,12 +124,16 @@ struct Line {
 
 impl Line {
     fn new() -> Line {
-        Line { length: 0, word: Vec::new(), open: None, numbers: Vec::new(), fields: 0, no_number: None }
+        let (form, word, numbers) = (Form::Ordinary, Vec::new(), Vec::new());
+        Line { length: 0, form, word, open: None, numbers, fields: 0, no_number: None }
     }
 
     fn take(&mut self, byte: u8) {
         self.length += 1;
-        if byte == b' ' {
+        if byte == b' ' && self.is_behind_aligned() {
+            self.form = Form::Aligned;
+            self.word.clear();
+        } else if byte == b' ' {
             self.close_field();
             self.open = Some(Field::new());
         } else if let Some(field) = &mut self.open {
@@ -132,6 +141,11 @@ impl Line {
         } else if self.word.len() < KEPT_WORD {
             self.word.push(byte);
         }
+    }
+
+    /// The first piece of the line is `aligned`, and nothing is behind it yet.
+    fn is_behind_aligned(&self) -> bool {
+        self.form == Form::Ordinary && self.open.is_none() && self.word == ALIGNED
     }
 
     fn close_field(&mut self) {
@@ -159,27 +173,26 @@ impl Line {
             return None;
         }
         self.close_field();
-        let Some(word) = Word::from(&self.word) else {
+        let Some(word) = Word::from(self.form, &self.word) else {
             return Some(Answer::BadWord);
         };
         if let Some(place) = self.bad_field(word) {
             return Some(Answer::BadField(place));
         }
-        Some(ask(word, &self.numbers))
+        Some(ask(self.form, word, &self.numbers))
     }
 }
 
-fn ask(word: Word, numbers: &[u64]) -> Answer {
+fn ask(form: Form, word: Word, numbers: &[u64]) -> Answer {
     let (lead, list) = numbers.split_at(word.leading() as usize);
-    let periods: Vec<u64> = list.iter().step_by(2).copied().collect();
-    let costs: Vec<u64> = list.iter().skip(1).step_by(2).copied().collect();
-    let tasks = Tasks { periods: &periods, costs: &costs };
+    let list = List::of(list);
+    let tasks = list.lend();
     let result = match word {
-        Word::Supply => shares::supply(lead[0], lead[1], lead[2]).map(|n| vec![n]),
+        Word::Supply => shares::supply(form, lead[0], lead[1], lead[2]).map(|n| vec![n]),
         Word::Demand => shares::demand(tasks, lead[0], lead[1]).map(|n| vec![n]),
-        Word::Check => shares::check(tasks, lead[0], lead[1]).map(|met| vec![u64::from(met)]),
-        Word::Least => shares::least(tasks, lead[0]).map(|b| vec![b]),
-        Word::Best => shares::best(tasks, lead[0]).map(|i| vec![i.period, i.budget]),
+        Word::Check => shares::check(form, tasks, lead[0], lead[1]).map(|met| vec![u64::from(met)]),
+        Word::Least => shares::least(form, tasks, lead[0]).map(|b| vec![b]),
+        Word::Best => shares::best(form, tasks, lead[0]).map(|i| vec![i.period, i.budget]),
         Word::Help => return Answer::Help,
     };
     match result {
@@ -351,7 +364,7 @@ mod tests {
 
     #[test]
     fn help_has_no_fields() {
-        let text = "supply P B t | demand i t TASKS | check P B TASKS | least P TASKS | best PMAX TASKS (TASKS: period cost period cost ..)";
+        let text = "supply P B t | demand i t TASKS | check P B TASKS | least P TASKS | best PMAX TASKS (TASKS: period cost period cost ..) | aligned before supply, check, least or best: for tasks released at starts of a resource period";
         assert_eq!(lines(b"help\nhelp\r\nhelp"), [text; 3]);
         for with_fields in ["help ", "help  ", "help 1", "help x", "help supply 1", "help 1 2 3 4", "help \t"]
         {
@@ -359,6 +372,53 @@ mod tests {
         }
         for no_word in ["helpp", "HELP", "Help", "hel", " help", "help\t", "help\r\r", "?"] {
             assert_eq!(one(no_word), "bad word", "{no_word}");
+        }
+    }
+
+    #[test]
+    fn aligned_stands_before_four_words() {
+        let asked = [
+            ("aligned supply 4 3 2", "ok 1"),
+            ("aligned supply 4 3 5", "ok 3"),
+            ("aligned supply 4 3 7", "ok 5"),
+            ("aligned check 5 3 5 1 10 3", "ok 1"),
+            ("aligned check 5 2 5 1 10 3", "ok 0"),
+            ("aligned least 5 5 1 10 3", "ok 3"),
+            ("aligned least 5 2 2 4 1", "no 36 0"),
+            ("aligned least 2 2 2 4 1", "no 34 0"),
+            ("aligned best 9 5 1 10 3", "ok 5 3"),
+            ("aligned best 9 5 1 11 3", "no 36 0"),
+            ("aligned best 0 5 1 11 3", "no 33 0"),
+            ("aligned supply 0 3 7", "no 33 0"),
+            ("aligned supply 4 3 2001", "no 35 0"),
+            ("aligned least 5", "no 30 0"),
+            ("aligned least 0 5 6", "no 31 1"),
+            ("aligned best 0 5 1 4 1", "no 32 2"),
+        ];
+        for (query, answer) in asked {
+            assert_eq!(one(query), answer, "{query}");
+        }
+        assert_eq!(lines(b"aligned least 5 5 1 10 3\r\nleast 5 5 1 10 3"), ["ok 3", "ok 4"]);
+    }
+
+    /// The fields are counted from behind the word.
+    #[test]
+    fn aligned_stands_before_no_other_word() {
+        let bad =
+            ["", " ", "  supply 4 3 7", " demand 2 5 5 1 10 3", " help", " aligned", " aligned supply 4 3 7"];
+        for rest in
+            bad.into_iter().chain(["d supply 4 3 7", "\tsupply 4 3 7", " Supply 4 3 7", " supplyyy 4 3 7"])
+        {
+            assert_eq!(one(&format!("aligned{rest}")), "bad word", "{rest}");
+        }
+        for no_word in
+            [" aligned supply 4 3 7", "Aligned supply 4 3 7", "supply aligned 4 3 7", "aligne best"]
+        {
+            assert!(one(no_word).starts_with("bad "), "{no_word}");
+        }
+        let asked = [("supply", 1), ("supply ", 1), ("supply 4 3", 3), ("supply 4 3 7 1", 4), ("least x", 1)];
+        for (rest, place) in asked.into_iter().chain([("check 4  5 1", 2), ("best 4 5 1 aligned", 4)]) {
+            assert_eq!(one(&format!("aligned {rest}")), format!("bad field {place}"), "{rest}");
         }
     }
 

@@ -3,18 +3,16 @@
 
 use crate::compare_sizing::{answer_alone, ask_all, first_difference, Asked, ENDS};
 use crate::long_lines;
+use crate::query_cases::{bare, take_apart};
 use crate::reached::Reached;
 use crate::refusal::Refusal;
 use crate::sizing::{Answer, Reader, HELP};
 
 /// The tasks of a line that 31 or 32 refuses.
-fn tasks(line: &[u8]) -> Vec<(u128, u128)> {
-    let line = String::from_utf8_lossy(line);
-    let (word, fields) = line.split_once(' ').expect("a word");
-    let numbers = fields.split_whitespace().map(|field| field.parse().unwrap_or(u128::MAX));
-    let lead = if word == "demand" || word == "check" { 2 } else { 1 };
-    let list: Vec<u128> = numbers.skip(lead).collect();
-    list.chunks(2).map(|task| (task[0], task[1])).collect()
+fn tasks(line: &[u8]) -> Vec<(u64, u64)> {
+    let (_, list) = take_apart(bare(line)).lead_and_list();
+    let tasks = list.lend();
+    tasks.periods.iter().copied().zip(tasks.costs.iter().copied()).collect()
 }
 
 /// The places, counted from 1, of the tasks that meet each fault.
@@ -25,7 +23,7 @@ struct Places {
     falls: Vec<u64>,
 }
 
-fn places(tasks: &[(u128, u128)]) -> Places {
+fn places(tasks: &[(u64, u64)]) -> Places {
     let at = |fault: &dyn Fn(usize) -> bool| {
         (0..tasks.len()).filter(|&k| fault(k)).map(|k| k as u64 + 1).collect::<Vec<u64>>()
     };

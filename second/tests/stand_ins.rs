@@ -282,8 +282,72 @@ fn a_sizing_with_another_place_is_seen() {
         ("s/^no 32 2$/no 32 1/", "second:  no 32 2"),
     ];
     for (edit, what) in edits {
-        let fault = answered_otherwise(&["compare-sizing"], "sizing", edit).unwrap_err();
+        let fault = answered_otherwise(&FEW_QUERIES, "sizing", edit).unwrap_err();
         assert!(fault.contains(what), "{edit}: {fault}");
+    }
+}
+
+/// Too few for every case, but a difference is told first.
+const FEW_QUERIES: [&str; 5] = ["compare-sizing", "--count", "40000", "--wait", SHORT];
+
+/// 36 as another number or with a detail, and answers of the aligned form in words of their own.
+#[test]
+fn a_sizing_with_another_aligned_answer_is_seen() {
+    let edits = [
+        ("s/^no 36 0/no 34 0/", "second:  no 36 0"),
+        ("s/^no 36 0/no 36 1/", "second:  no 36 0"),
+        ("/^no 36 0/d", "second:  no 36 0"),
+    ];
+    for (edit, what) in edits {
+        let fault = answered_otherwise(&FEW_QUERIES, "sizing", edit).unwrap_err();
+        assert!(fault.contains(what), "{edit}: {fault}");
+    }
+    let fault = said(&FEW_QUERIES, "sizing_without_aligned", &[]).unwrap_err();
+    assert!(fault.contains("aligned best 9 5 1 10 3"), "{fault}");
+}
+
+const ON_SALES: [&str; 3] = ["compare-sales", "--wait", SHORT];
+
+#[test]
+fn a_right_sales_agrees_and_one_that_reads_on_is_seen() {
+    let right = said(&ON_SALES, "sales", &[]).unwrap();
+    assert!(right.contains("outputs agree"), "{right}");
+    let fault = said(&ON_SALES, "sales_reads_on", &[]).unwrap_err();
+    assert!(fault.contains("has not ended"), "{fault}");
+}
+
+#[test]
+fn a_sales_with_another_line_is_seen() {
+    let edits = [
+        ("s/^no 37 .*/no 37 0/", "second:  no 37 "),
+        ("s/^no 37 16$/no 37 15/", "second:  no 37 16"),
+        ("s/^no 37 17$/no 30 0/", "second:  no 37 17"),
+        ("s/^aligned no 36 0$/aligned no 34 0/", "aligned no 36 0"),
+        ("s/^aligned bad line$/aligned ok 5/", "aligned bad line"),
+        ("s/^bad line$/ordinary bad line/", "second:  bad line"),
+        ("/^ordinary ok /d", "second:  ordinary ok "),
+        ("s/^9999 /999 /", "9999 "),
+        ("s/^(help .*)$/\\1./", "second:  help | sheet"),
+        ("s/^bad word$/ordinary bad word/", "second:  bad word"),
+        ("s/^bad word$/bad field 1/", "second:  bad word"),
+        ("/^bad word$/d", "second:  bad word"),
+        ("s/^bad field 1$/bad field 0/", "second:  bad field 1"),
+        ("s/^bad field 3$/bad field 4/", "second:  bad field 3"),
+        ("s/^bad field 2$/aligned bad field 2/", "second:  bad field 2"),
+        ("s/^(ordinary|aligned) (bad field 1)$/\\2/", "second:  ordinary bad field 1"),
+    ];
+    for (edit, what) in edits {
+        let fault = answered_otherwise(&ON_SALES, "sales", edit).unwrap_err();
+        assert!(fault.contains(what), "{edit}: {fault}");
+    }
+}
+
+#[test]
+fn a_sales_that_asks_a_bad_question_is_seen() {
+    for (word, told) in [("demand", "bad word"), ("aligned least", "bad word"), ("check", "bad field 2")] {
+        let fault = said(&ON_SALES, "sales_asks_bad", &[("WORD", word)]).unwrap_err();
+        let seen = fault.contains(&format!("\"{word} ")) && fault.contains(&format!("second:  {told}"));
+        assert!(seen, "{word}: {fault}");
     }
 }
 
@@ -296,10 +360,11 @@ fn a_sizing_with_another_bad_line_or_help_is_seen() {
         ("/^bad line$/d", "bad line"),
         ("s/^(supply P .*)$/\\1 /", "second:  supply P B t | demand"),
         ("s/^(supply P .*) [(].*$/\\1/", "second:  supply P B t | demand"),
+        ("s/^(supply P .*) [|] aligned .*$/\\1/", "second:  supply P B t | demand"),
         ("s/^bad field 1$/bad field 0/", "second:  bad field 1"),
     ];
     for (edit, what) in edits {
-        let fault = answered_otherwise(&["compare-sizing", "--wait", SHORT], "sizing", edit).unwrap_err();
+        let fault = answered_otherwise(&FEW_QUERIES, "sizing", edit).unwrap_err();
         assert!(fault.contains(what), "{edit}: {fault}");
     }
 }

@@ -3,26 +3,45 @@
 
 use super::twin;
 use second::random::Random;
+use second::shares::{self, Form};
 
 pub const P_MAX: u32 = 2000;
 const N: usize = 16;
 
 #[derive(Clone, Debug, PartialEq)]
 pub struct List {
+    pub form: Form,
     pub periods: Vec<u32>,
     pub costs: Vec<u32>,
 }
 
 impl List {
     /// Periods put in order, costs put in range.
-    fn new(mut tasks: Vec<(u32, u32)>) -> List {
+    pub fn new(mut tasks: Vec<(u32, u32)>) -> List {
         for (period, cost) in &mut tasks {
             *period = (*period).clamp(1, P_MAX);
             *cost = (*cost).clamp(1, *period);
         }
         tasks.sort_by_key(|task| task.0);
         let (periods, costs) = tasks.into_iter().unzip();
-        List { periods, costs }
+        List {
+            form: Form::Ordinary,
+            periods,
+            costs,
+        }
+    }
+
+    /// In the aligned form each period is cut to a multiple of the one before.
+    pub fn in_form(mut self, form: Form) -> List {
+        self.form = form;
+        if form == Form::Ordinary {
+            return self;
+        }
+        for k in 1..self.periods.len() {
+            self.periods[k] -= self.periods[k] % self.periods[k - 1];
+            self.costs[k] = self.costs[k].min(self.periods[k]);
+        }
+        self
     }
 
     fn tasks(&self) -> Vec<(u32, u32)> {
@@ -36,12 +55,23 @@ impl List {
     pub fn query(&self, p_max: u32) -> String {
         let tasks = self.tasks();
         let fields: Vec<String> = tasks.iter().map(|(p, e)| format!(" {p} {e}")).collect();
-        format!("best {p_max}{}", fields.concat())
+        let form = match self.form {
+            Form::Ordinary => "",
+            Form::Aligned => "aligned ",
+        };
+        format!("{form}best {p_max}{}", fields.concat())
+    }
+
+    /// The same tasks for the plain reading.
+    pub fn wide(&self) -> shares::List {
+        let tasks = self.periods.iter().zip(&self.costs);
+        let numbers = tasks.flat_map(|(&p, &e)| [u64::from(p), u64::from(e)]);
+        shares::List::of(&numbers.collect::<Vec<_>>())
     }
 
     /// The lengths that the fast search looks at.
     pub fn lengths(&self) -> u64 {
-        twin::lengths(&self.periods, &self.costs, P_MAX)
+        twin::lengths(self.form, &self.periods, &self.costs, P_MAX)
     }
 }
 
@@ -55,21 +85,26 @@ const KNOWN: [&str; 6] = [
     "67 6 68 2 125 13 264 3 264 3 264 14 273 9 486 1 541 78 679 52 893 105 1266 5 2000 297 2000 26 2000 156 2000 42",
 ];
 
-pub fn known() -> Vec<List> {
-    let numbers = |row: &str| {
-        row.split(' ')
-            .filter_map(|field| field.parse().ok())
-            .collect::<Vec<u32>>()
+/// The worst harmonic lists in the aligned form: of all of them, and of those with a shorter first period.
+const KNOWN_ALIGNED: [&str; 5] = [
+    "1680 21 1680 79 1680 148 1680 16 1680 13 1680 13 1680 27 1680 155 1680 31 1680 83 1680 151 1680 14 1680 193 1680 166 1680 210 1680 359",
+    "1440 88 1440 86 1440 81 1440 93 1440 67 1440 115 1440 90 1440 92 1440 82 1440 85 1440 81 1440 81 1440 99 1440 96 1440 79 1440 118",
+    "840 47 840 47 840 39 840 50 840 46 840 39 840 19 840 39 840 17 840 36 1680 44 1680 211 1680 90 1680 184 1680 180 1680 208",
+    "720 32 720 6 720 15 720 52 720 47 720 22 720 28 720 38 1440 78 1440 107 1440 95 1440 79 1440 94 1440 125 1440 186 1440 181",
+    "360 6 360 14 360 18 360 18 360 17 360 21 360 17 1800 90 1800 103 1800 88 1800 82 1800 112 1800 97 1800 63 1800 92 1800 480",
+];
+
+pub fn known(form: Form) -> Vec<List> {
+    let rows = match form {
+        Form::Ordinary => &KNOWN[..],
+        Form::Aligned => &KNOWN_ALIGNED[..],
     };
     let list = |row: &&str| {
-        List::new(
-            numbers(row)
-                .chunks(2)
-                .map(|task| (task[0], task[1]))
-                .collect(),
-        )
+        let numbers: Vec<u32> = row.split(' ').filter_map(|x| x.parse().ok()).collect();
+        let tasks = numbers.chunks(2).map(|task| (task[0], task[1]));
+        List::new(tasks.collect()).in_form(form)
     };
-    KNOWN.iter().map(list).collect()
+    rows.iter().map(list).collect()
 }
 
 fn near(random: &mut Random, centre: u32, spread: u64) -> u32 {
@@ -173,7 +208,37 @@ fn small_steps(random: &mut Random) -> List {
     List::new(tasks)
 }
 
-pub fn from_family(random: &mut Random) -> List {
+/// First periods with many divisors: the aligned form takes that many resource periods.
+const DIVISIBLE: [u32; 16] = [
+    12, 24, 36, 48, 60, 72, 96, 120, 180, 240, 360, 480, 720, 840, 1260, 1680,
+];
+
+/// Each period is the one before or a multiple of it.
+fn harmonic(random: &mut Random) -> List {
+    let mut period = *random.pick(&DIVISIBLE);
+    let once_in = random.between(1, 6);
+    let mut periods = Vec::new();
+    for _ in 0..N {
+        periods.push(period);
+        let next = period * *random.pick(&[2, 2, 3, 4, 5, 7]);
+        if next <= P_MAX && random.once_in(once_in) {
+            period = next;
+        }
+    }
+    let percent = random.between(30, 105);
+    with_use(random, periods, percent)
+}
+
+/// Harmonic ones for the aligned form, now and then one of the others cut to multiples.
+pub fn from_family(random: &mut Random, form: Form) -> List {
+    if form == Form::Ordinary || random.once_in(4) {
+        ordinary_family(random).in_form(form)
+    } else {
+        harmonic(random).in_form(form)
+    }
+}
+
+fn ordinary_family(random: &mut Random) -> List {
     match random.below(7) {
         0 => random_list(random),
         1 => short_first(random),
@@ -185,7 +250,7 @@ pub fn from_family(random: &mut Random) -> List {
     }
 }
 
-/// A small change of one to three tasks.
+/// A small change of one to three tasks, in the list's form.
 fn changed(random: &mut Random, list: &List) -> List {
     let mut tasks = list.tasks();
     for _ in 0..random.between(1, 3) {
@@ -200,20 +265,18 @@ fn changed(random: &mut Random, list: &List) -> List {
             _ => (random.between(1, 2000) as u32, random.between(1, 60) as u32),
         };
     }
-    List::new(tasks)
+    List::new(tasks).in_form(list.form)
 }
 
 /// The worst lists found, worst first, with the lengths looked at.
-pub fn search(seed: u64, families: u64, changes: u64, known: &[List]) -> Vec<(u64, List)> {
+pub fn search(form: Form, seed: u64, families: u64, changes: u64) -> Vec<(u64, List)> {
     let mut random = Random::new(seed);
-    let mut worst: Vec<(u64, List)> = known
-        .iter()
-        .map(|list| (list.lengths(), list.clone()))
+    let more = (0..families).map(|_| from_family(&mut random, form));
+    let lists: Vec<List> = known(form).into_iter().chain(more).collect();
+    let mut worst: Vec<(u64, List)> = lists
+        .into_iter()
+        .map(|list| (list.lengths(), list))
         .collect();
-    for _ in 0..families {
-        let list = from_family(&mut random);
-        worst.push((list.lengths(), list));
-    }
     worst.sort_by(|a, b| b.0.cmp(&a.0));
     worst.truncate(4);
     for (count, list) in &mut worst {
@@ -227,4 +290,37 @@ pub fn search(seed: u64, families: u64, changes: u64, known: &[List]) -> Vec<(u6
     }
     worst.sort_by(|a, b| b.0.cmp(&a.0));
     worst
+}
+
+#[cfg(test)]
+mod tests {
+    use super::*;
+
+    fn is_aligned(list: &List) -> bool {
+        let in_range =
+            |&(period, cost): &(u32, u32)| 1 <= cost && cost <= period && period <= P_MAX;
+        let all_in_range = list.tasks().iter().all(in_range);
+        list.periods.is_sorted() && all_in_range && list.wide().lend().divide_each_other()
+    }
+
+    #[test]
+    fn lists_of_the_aligned_form_divide_each_other() {
+        let mut random = Random::new(5);
+        for _ in 0..300 {
+            let list = from_family(&mut random, Form::Aligned);
+            let next = changed(&mut random, &list);
+            assert!(is_aligned(&list) && is_aligned(&next), "{list:?} {next:?}");
+        }
+    }
+
+    /// The search starts with them: none is cut, and the first is the worst.
+    #[test]
+    fn the_known_aligned_lists_are_as_they_are_written() {
+        let known = known(Form::Aligned);
+        let query = |list: &List| list.query(P_MAX);
+        let written = KNOWN_ALIGNED.map(|row| format!("aligned best 2000 {row}"));
+        assert_eq!(known.iter().map(query).collect::<Vec<_>>(), written);
+        let lengths: Vec<u64> = known.iter().map(List::lengths).collect();
+        assert_eq!(lengths, [2544, 2261, 2060, 1936, 1618]);
+    }
 }

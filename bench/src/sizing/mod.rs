@@ -29,7 +29,7 @@ fn plan(options: &Options) -> Result<timing::Plan, String> {
     })
 }
 
-/// `sizing twin`: best queries alone, to try the timing on.
+/// `sizing twin`: best queries alone, of either form, to try the timing on.
 pub fn answer() -> io::Result<()> {
     twin::run(io::stdin().lock(), io::stdout().lock())
 }

@@ -1,11 +1,11 @@
-//! `time-sizing`: the best interface on the worst lists found, by the given program, by
-//! the same algorithm here and by the plain reading.
+//! `time-sizing`: the best interface of either form on the worst lists found, by the given
+//! program, by the same algorithm here and by the plain reading.
 
 use super::bad_lists::{self, List, P_MAX};
 use super::plain_work::plain_work;
 use super::twin;
 use second::pipe;
-use second::shares::{self, Tasks};
+use second::shares::{self, Form};
 use std::hint::black_box;
 use std::time::Instant;
 
@@ -45,6 +45,7 @@ fn twin_run(list: &List, times: u64) -> f64 {
     seconds(|| {
         for _ in 0..times {
             black_box(twin::best(
+                black_box(list.form),
                 black_box(&list.periods),
                 black_box(&list.costs),
                 black_box(P_MAX),
@@ -53,24 +54,17 @@ fn twin_run(list: &List, times: u64) -> f64 {
     })
 }
 
-fn wide(list: &[u32]) -> Vec<u64> {
-    list.iter().map(|&x| u64::from(x)).collect()
-}
-
 fn plain_run(list: &List, p_max: u32) -> f64 {
-    let (periods, costs) = (wide(&list.periods), wide(&list.costs));
-    let tasks = Tasks {
-        periods: &periods,
-        costs: &costs,
-    };
+    let wide = list.wide();
     seconds(|| {
-        black_box(shares::best(black_box(tasks), black_box(u64::from(p_max)))).ok();
+        let tasks = black_box(wide.lend());
+        black_box(shares::best(list.form, tasks, black_box(p_max.into()))).ok();
     })
 }
 
 /// The right answers, `times` of them.
 fn expected(list: &List, times: u64) -> String {
-    let line = match twin::best(&list.periods, &list.costs, P_MAX) {
+    let line = match twin::best(list.form, &list.periods, &list.costs, P_MAX) {
         (0, _) => "no 34 0\n".to_string(),
         (p, b) => format!("ok {p} {b}\n"),
     };
@@ -141,9 +135,7 @@ fn time_list(plan: &Plan, name: &str, list: &List) -> Result<Row, String> {
 
 /// Lists that are hard for the plain reading, whatever they cost the fast search.
 fn hard_for_plain() -> List {
-    let periods: Vec<u32> = (0..16).map(|k| 1925 + 5 * k).collect();
-    let costs = vec![40; 16];
-    List { periods, costs }
+    List::new((0..16).map(|k| (1925 + 5 * k, 40)).collect())
 }
 
 fn answers_with(kilobytes: u32, program: &str, list: &List) -> bool {
@@ -156,7 +148,9 @@ fn answers_with(kilobytes: u32, program: &str, list: &List) -> bool {
 /// Two buffers and two tables do not fit in 64 KB: where it answers so, the limit did not reach it (an emulator has its own).
 fn small_stack(program: &str, list: &List) -> Result<String, String> {
     if answers_with(64, program, list) {
-        return Ok("a limit on the stack does not reach the program here: not looked at".to_string());
+        return Ok(
+            "a limit on the stack does not reach the program here: not looked at".to_string(),
+        );
     }
     if answers_with(256, program, list) {
         return Ok("with a stack of 256 KB: the same answer".to_string());
@@ -184,28 +178,40 @@ fn table(rows: &[(String, Row)]) {
     println!();
 }
 
-pub fn run(plan: &Plan) -> Result<String, String> {
+fn worst_found(plan: &Plan, form: Form) -> Vec<List> {
     let start = Instant::now();
-    let found = bad_lists::search(plan.seed, plan.families, plan.changes, &bad_lists::known());
+    let found = bad_lists::search(form, plan.seed, plan.families, plan.changes);
     let tried = plan.families + plan.changes * found.len() as u64;
     println!(
-        "searched {tried} lists in {:.1} s, seed {}",
+        "searched {tried} lists in {:.1} s, seed {}, {form:?}",
         start.elapsed().as_secs_f64(),
         plan.seed
     );
+    found.into_iter().map(|(_, list)| list).collect()
+}
+
+/// What a row is called, and its list: the ordinary form first, then the aligned one and what the
+/// ordinary one makes of the same tasks.
+fn lists(plan: &Plan) -> Vec<(String, List)> {
+    let ordinary = worst_found(plan, Form::Ordinary);
+    let names = (1..=3).map(|place| format!("worst {place}"));
+    let mut lists: Vec<(String, List)> = names.zip(ordinary).collect();
+    lists.push(("long periods".to_string(), hard_for_plain()));
+    let aligned = worst_found(plan, Form::Aligned).swap_remove(0);
+    let same = aligned.clone().in_form(Form::Ordinary);
+    lists.push(("aligned, worst".to_string(), aligned));
+    lists.push(("the same, ordinary".to_string(), same));
+    lists
+}
+
+pub fn run(plan: &Plan) -> Result<String, String> {
+    let lists = lists(plan);
     let mut rows = Vec::new();
-    for (place, (_, list)) in found.iter().take(3).enumerate() {
-        let name = format!("worst {}", place + 1);
-        let row = time_list(plan, &name, list)?;
-        rows.push((name, row));
+    for (name, list) in &lists {
+        rows.push((name.clone(), time_list(plan, name, list)?));
     }
-    let hard = hard_for_plain();
-    rows.push((
-        "long periods".to_string(),
-        time_list(plan, "long periods", &hard)?,
-    ));
     table(&rows);
-    println!("{}", small_stack(&plan.program, &found[0].1)?);
+    println!("{}", small_stack(&plan.program, &lists[0].1)?);
     let worst = &rows[0].1;
     Ok(format!(
         "time-sizing: worst list {:.3} ms, plain/proved {:.0}, proved/twin {:.2}",

@@ -1,6 +1,7 @@
-//! The algorithm of the crate `shares` for the best interface, in place, in u32. The tests
-//! hold it against the plain reading.
+//! The algorithm of the crate `shares` for the best interface of either form, in place, in u32.
+//! The tests hold it against the plain reading.
 
+use second::shares::Form;
 use std::io::{self, BufRead, Write};
 
 pub const WIDTH: usize = 16;
@@ -56,14 +57,29 @@ pub fn leap_table(periods: &[u32], demands: &[u16]) -> Vec<u16> {
     leaps
 }
 
+/// The form as a number: how many gaps the first tick waits for.
+pub fn gaps_of(form: Form) -> u32 {
+    match form {
+        Form::Ordinary => 2,
+        Form::Aligned => 1,
+    }
+}
+
 /// How much longer than d the least t with supply at least d is, for d from 1.
 #[inline(always)]
-pub fn waited(p: u32, b: u32, d: u32) -> u32 {
-    (p - b) * (2 + (d - 1) / b)
+pub fn waited(gaps: u32, p: u32, b: u32, d: u32) -> u32 {
+    (p - b) * (gaps + (d - 1) / b)
+}
+
+/// The aligned form takes a p that divides all periods. Its periods are multiples of the first.
+#[inline(always)]
+pub fn is_taken(gaps: u32, p: u32, periods: &[u32]) -> bool {
+    gaps == 2 || periods[0] % p == 0
 }
 
 /// Looks for interfaces of valid tasks.
 pub struct Search<'a, C: Count> {
+    gaps: u32,
     periods: &'a [u32],
     demands: &'a [u16],
     leaps: &'a [u16],
@@ -72,12 +88,14 @@ pub struct Search<'a, C: Count> {
 
 impl<'a, C: Count> Search<'a, C> {
     pub fn new(
+        form: Form,
         periods: &'a [u32],
         demands: &'a [u16],
         leaps: &'a [u16],
         count: C,
     ) -> Search<'a, C> {
         Search {
+            gaps: gaps_of(form),
             periods,
             demands,
             leaps,
@@ -108,7 +126,7 @@ impl<'a, C: Count> Search<'a, C> {
                 loop {
                     self.count.length();
                     let d = u32::from(self.demands[t as usize * WIDTH + i]);
-                    let spare = waited(p, b, d);
+                    let spare = waited(self.gaps, p, b, d);
                     if d + spare <= t {
                         i += 1;
                         continue 'tasks;
@@ -148,10 +166,18 @@ impl<'a, C: Count> Search<'a, C> {
         self.first_budget(p, from, cap)
     }
 
+    fn takes(&self, p: u32) -> bool {
+        is_taken(self.gaps, p, self.periods)
+    }
+
     /// The least budget for p, or 0.
     #[cfg(test)]
     pub fn least(&mut self, p: u32) -> u32 {
-        self.least_under(p, p)
+        if self.takes(p) {
+            self.least_under(p, p)
+        } else {
+            0
+        }
     }
 
     /// The best (period, budget) up to p_max, or (0, 0).
@@ -159,7 +185,7 @@ impl<'a, C: Count> Search<'a, C> {
         let mut best = (0, 0);
         for p in 1..=p_max {
             let cap = if best.0 == 0 { p } else { best.1 * p / best.0 };
-            if cap >= 1 {
+            if cap >= 1 && self.takes(p) {
                 let b = self.least_under(p, cap);
                 if b != 0 {
                     best = (p, b);
@@ -170,32 +196,37 @@ impl<'a, C: Count> Search<'a, C> {
     }
 }
 
-/// The best interface of valid tasks, or (0, 0).
-pub fn best(periods: &[u32], costs: &[u32], p_max: u32) -> (u32, u32) {
+/// The best interface of valid tasks, or (0, 0); aligned ones have periods that divide each other.
+pub fn best(form: Form, periods: &[u32], costs: &[u32], p_max: u32) -> (u32, u32) {
     let demands = demand_table(periods, costs);
     let leaps = leap_table(periods, &demands);
-    Search::new(periods, &demands, &leaps, ()).best(p_max)
+    Search::new(form, periods, &demands, &leaps, ()).best(p_max)
 }
 
 /// The lengths that the search for the best interface looks at.
-pub fn lengths(periods: &[u32], costs: &[u32], p_max: u32) -> u64 {
+pub fn lengths(form: Form, periods: &[u32], costs: &[u32], p_max: u32) -> u64 {
     let demands = demand_table(periods, costs);
     let leaps = leap_table(periods, &demands);
-    let mut search = Search::new(periods, &demands, &leaps, 0);
+    let mut search = Search::new(form, periods, &demands, &leaps, 0);
     search.best(p_max);
     search.count
 }
 
-/// The answer to a line `best PMAX p e p e ..` of valid numbers; nothing is checked.
+/// The answer to a line `best PMAX p e p e ..` of valid numbers, with `aligned` before it for that form;
+/// nothing is checked.
 fn answer(line: &str) -> Option<String> {
-    let numbers = line
+    let (form, asked) = match line.strip_prefix("aligned ") {
+        Some(asked) => (Form::Aligned, asked),
+        None => (Form::Ordinary, line),
+    };
+    let numbers = asked
         .strip_prefix("best ")?
         .split(' ')
         .map(|field| field.parse().ok());
     let numbers: Vec<u32> = numbers.collect::<Option<_>>()?;
     let periods: Vec<u32> = numbers.iter().skip(1).step_by(2).copied().collect();
     let costs: Vec<u32> = numbers.iter().skip(2).step_by(2).copied().collect();
-    Some(match best(&periods, &costs, *numbers.first()?) {
+    Some(match best(form, &periods, &costs, *numbers.first()?) {
         (0, _) => "no 34 0".to_string(),
         (p, b) => format!("ok {p} {b}"),
     })
@@ -213,53 +244,74 @@ pub fn run(input: impl BufRead, mut output: impl Write) -> io::Result<()> {
 #[cfg(test)]
 mod tests {
     use super::*;
+    use crate::sizing::bad_lists::{known, List};
     use second::random::Random;
-    use second::shares::{self, Tasks};
+    use second::shares;
 
-    fn wide(list: &[u32]) -> Vec<u64> {
-        list.iter().map(|&x| u64::from(x)).collect()
-    }
-
-    fn random_tasks(random: &mut Random, longest: u64) -> (Vec<u32>, Vec<u32>) {
+    fn random_list(random: &mut Random, form: Form, longest: u64) -> List {
         let n = random.between(1, 6);
-        let mut periods: Vec<u32> = (0..n).map(|_| random.between(1, longest) as u32).collect();
-        periods.sort();
         let share = random.between(1, n + 2);
-        let cost = |p: &u32| random.between(1, (u64::from(*p) / share).max(1)) as u32;
-        let costs = periods.iter().map(cost).collect();
-        (periods, costs)
+        let task = |_| {
+            let period = random.between(1, longest);
+            let cost = random.between(1, (period / share).max(1));
+            (period as u32, cost as u32)
+        };
+        List::new((0..n).map(task).collect()).in_form(form)
     }
 
-    #[test]
-    fn agrees_with_the_plain_reading() {
+    /// Best and least are those of the plain reading; says whether the best leaves something of the core.
+    fn compare(list: &List, p_max: u32) -> bool {
+        let (form, periods, costs) = (list.form, &list.periods, &list.costs);
+        let wide = list.wide();
+        let plain = shares::best(form, wide.lend(), u64::from(p_max));
+        let of_plain = plain.map_or((0, 0), |share| (share.period as u32, share.budget as u32));
+        assert_eq!(
+            best(form, periods, costs, p_max),
+            of_plain,
+            "{list:?} {p_max}"
+        );
+        let demands = demand_table(periods, costs);
+        let leaps = leap_table(periods, &demands);
+        let least = Search::new(form, periods, &demands, &leaps, ()).least(p_max);
+        let of_plain = shares::least(form, wide.lend(), u64::from(p_max)).unwrap_or(0);
+        assert_eq!(u64::from(least), of_plain, "{list:?} {p_max}");
+        plain.is_ok_and(|share| share.budget < share.period)
+    }
+
+    fn agrees_with_the_plain_reading(form: Form) {
         let mut random = Random::new(7);
         let mut passed = 0;
         for round in 0..3000 {
             let longest = if round % 10 == 0 { 60 } else { 15 };
-            let (periods, costs) = random_tasks(&mut random, longest);
-            let (wide_periods, wide_costs) = (wide(&periods), wide(&costs));
-            let tasks = Tasks {
-                periods: &wide_periods,
-                costs: &wide_costs,
-            };
-            let p_max = random.between(1, 25) as u32;
-            let found = best(&periods, &costs, p_max);
-            match shares::best(tasks, u64::from(p_max)) {
-                Ok(plain) => {
-                    passed += 1;
-                    assert_eq!(
-                        (plain.period, plain.budget),
-                        (found.0.into(), found.1.into())
-                    );
-                }
-                Err(_) => assert_eq!(found, (0, 0)),
-            }
-            let demands = demand_table(&periods, &costs);
-            let leaps = leap_table(&periods, &demands);
-            let least = Search::new(&periods, &demands, &leaps, ()).least(p_max);
-            let plain = shares::least(tasks, u64::from(p_max)).unwrap_or(0);
-            assert_eq!(u64::from(least), plain, "{periods:?} {costs:?} {p_max}");
+            let list = random_list(&mut random, form, longest);
+            passed += u32::from(compare(&list, random.between(1, 25) as u32));
         }
         assert!(passed > 500, "{passed}");
+    }
+
+    #[test]
+    fn the_ordinary_form_agrees_with_the_plain_reading() {
+        agrees_with_the_plain_reading(Form::Ordinary);
+    }
+
+    #[test]
+    fn the_aligned_form_agrees_with_the_plain_reading() {
+        agrees_with_the_plain_reading(Form::Aligned);
+    }
+
+    #[test]
+    fn long_aligned_lists_agree_with_the_plain_reading() {
+        for list in known(Form::Aligned) {
+            compare(&list, 24);
+        }
+    }
+
+    #[test]
+    fn a_line_says_which_form() {
+        let said = |line: &str| answer(line).unwrap_or_default();
+        assert_eq!(said("best 5 5 1 10 3"), "ok 3 2");
+        assert_eq!(said("aligned best 5 5 1 10 3"), "ok 5 3");
+        assert_eq!(said("aligned best 60 2 2 4 1"), "no 34 0");
+        assert_eq!(said("aligned least 5 5 1 10 3"), "");
     }
 }

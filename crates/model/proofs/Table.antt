@@ -1,8 +1,8 @@
--- The reply table, rows 30 to 35: a row's number and detail are given exactly when it is the first that applies, and a result, the right
+-- The reply table, rows 30 to 36: a row's number and detail are given exactly when it is the first that applies, and a result, the right
 -- one, exactly when none does. Of everything that can be asked. Assumes nothing.
 use Prim.Native.Nat.{ℕ, suc, _-_, _≤_, _<_}
 use mathlib.Core.Path.{_≡_, refl, ap, sym, _∙_, subst}
-use mathlib.Core.Bool.{Bool, true, false, cond, not, _&&_, _||_}
+use mathlib.Core.Bool.{Bool, true, false, cond, not, _&&_}
 use mathlib.Core.List.{List, [], _∷_}
 use mathlib.Core.Logic.{_⊎_, inl, inr, ⊎-elim}
 use native.Mathlib.Omega.{arith}
@@ -11,34 +11,25 @@ use lib.Dec.{leb, ltb, eqb}
 use borrow.Author.Tests.{leb-true, leb-false, ltb-true, ltb-false, eqb-true, eqb-false}
 use lib.ListN.{length, getD}
 use Rattle.model.specs.Search.{first}
+use Rattle.model.specs.Form.{Form, suits, takes}
 use Rattle.model.specs.Supply.{supplyOf}
 use Rattle.model.specs.Demand.{demandOf}
 use Rattle.model.specs.Share.{Share, passes, leastOf, bestOf}
 use Rattle.model.specs.Reply.{Reply, gives, refuses}
-use Rattle.model.specs.Rows.{within, row, inRange, miscounted, outOfRange, falls, firstOut, firstFall, tasksRows}
+use Rattle.model.specs.Rows.{within, row, inRange, miscounted, outOfRange, falls, firstOut, firstFall, tasksRows, unaligned}
 use Rattle.model.specs.Rows.{supplyReply, demandReply, checkReply, leastReply, bestReply}
-use Rattle.model.specs.Meaning.{Pass}
+use Rattle.model.specs.Meaning.{Suits, Takes, Pass}
 use Rattle.model.specs.Asked.{Work, Asked, supply, demand, check, least, best, replyTo}
 use Rattle.model.specs.Table.{Outside, OutOfRange, Miscounted, TaskOut, PeriodFalls, FirstTask, OfTasks}
-use Rattle.model.specs.Table.{ShareOut, LengthOut, NonePasses}
-use Rattle.model.specs.Table.{Row, row-30, row-31, row-32, row-33, row-34, row-35, rows, First, NoRow, Result, Table}
-use Rattle.model.proofs.Tests.{clash, below-or-from, neither-below}
+use Rattle.model.specs.Table.{ShareOut, NotAligned, LengthOut, NonePasses}
+use Rattle.model.specs.Table.{Row, row-30, row-31, row-32, row-33, row-34, row-35, row-36, rows, First, NoRow, Result, Table}
+use Rattle.model.proofs.Tests.{Tells, never, either, refuted, clash, below-or-from, neither-below}
 use Rattle.model.proofs.Places.{first-smallest}
 use Rattle.model.proofs.Supply.{supply-means, supply-only}
 use Rattle.model.proofs.Demand.{demand-means, demand-only}
+use Rattle.model.proofs.Divides.{suits-tells, takes-tells}
 use Rattle.model.proofs.Meaning.{Whole, pass-passes, passes-means}
 use Rattle.model.proofs.Meaning.{least-means, least-none, least-only, best-means, best-none, best-only}
-
--- a test tells a fact: it holds where the fact does, and only there
-abbrev Tells : Bool → Type 0 → Type 0
-Tells b A = (b ≡ true → A) × (b ≡ false → A → ⊥)
-
-never : Tells false ⊥
-never = (λ e. absurd (clash e refl), λ e a. a)
-
-either : {A B : Type 0} (a b : Bool) → Tells a A → Tells b B → Tells (a || b) (A ⊎ B)
-either true b x y = (λ e. inl (x .0 refl), λ e o. clash refl e)
-either false b x y = (λ e. inr (y .0 e), λ e. ⊎-elim (x .1 refl) (y .1 e))
 
 not-both : {A B : Type 0} (a b : Bool) → Tells (not a) A → Tells (not b) B → Tells (not (a && b)) (A ⊎ B)
 not-both true b x y = (λ e. inr (y .0 e), λ e. ⊎-elim (x .1 refl) (y .1 e))
@@ -145,7 +136,7 @@ module _ (w : Work) where
   some-fall = has-first (ltb 0 (firstFall ps)) (firstFall ps) (PeriodFalls w) period-falls
 
   -- where row 31 does not apply, a ceil by each period exists
-  whole : ((k : ℕ) → FirstTask TaskOut k w → ⊥) → Whole ps
+  pub whole : ((k : ℕ) → FirstTask TaskOut k w → ⊥) → Whole ps
   whole fit k l = go (eq-zero-or-pos (getD ps k 0))
     where
       go : (getD ps k 0 ≡ 0) ⊎ (0 < getD ps k 0) → 1 ≤ getD ps k 0
@@ -173,6 +164,7 @@ record Told (asked : Asked) : Type 0 where
   is-31 : DetailTest (λ k. OfTasks (FirstTask TaskOut k) asked)
   is-32 : DetailTest (λ k. OfTasks (FirstTask PeriodFalls k) asked)
   is-33 : Test (ShareOut asked)
+  is-36 : Test (NotAligned asked)
   is-35 : Test (LengthOut asked)
   is-34 : Bool
   tells-34 : ((k : ℕ) → OfTasks (FirstTask TaskOut k) asked → ⊥) → Tells is-34 (NonePasses asked)
@@ -181,7 +173,7 @@ record Told (asked : Asked) : Type 0 where
   only : NoRow asked → (v : List ℕ) → Result asked v → values ≡ v
   reply : replyTo asked
       ≡ row (is-30 .0) 30 0 (row (is-31 .0) 31 (is-31 .1) (row (is-32 .0) 32 (is-32 .1)
-      (row (is-33 .0) 33 0 (row (is-35 .0) 35 0 (row is-34 34 0 (gives values))))))
+      (row (is-33 .0) 33 0 (row (is-36 .0) 36 0 (row (is-35 .0) 35 0 (row is-34 34 0 (gives values)))))))
 
 -- a period that is not out of range is at least 1
 positive : (P : ℕ) → (Outside 1 2000 P → ⊥) → 1 ≤ P
@@ -191,20 +183,21 @@ positive P in-range = go (eq-zero-or-pos P)
     go (inl z) = absurd (in-range (inl (omega (arith, z))))
     go (inr pos) = pos
 
-told-supply : (P B t : ℕ) → Told (supply P B t)
+told-supply : (form : Form) (P B t : ℕ) → Told (supply form P B t)
 unfolding supplyReply
-told-supply P B t =
+told-supply form P B t =
     record {
       is-30 = (_, never);
       is-31 = (_, 0, (never .0, λ e k. never .1 e));
       is-32 = (_, 0, (never .0, λ e k. never .1 e));
       is-33 = (_, out-of-range P B);
+      is-36 = (_, never);
       is-35 = (_, above 2000 t);
       is-34 = _;
       tells-34 = λ fit. never;
-      values = supplyOf P B t ∷ [];
-      right = λ h. (supplyOf P B t, refl, supply-means P B t (positive P (λ x. h 33 0 (row-33 (inl x)))));
-      only = λ h v r. ap (λ (s : ℕ). s ∷ []) (supply-only P B t (r .0) (r .2)) ∙ sym (r .1);
+      values = supplyOf form P B t ∷ [];
+      right = λ h. (supplyOf form P B t, refl, supply-means P B t form (positive P (λ x. h 33 0 (row-33 (inl x)))));
+      only = λ h v r. ap (λ (s : ℕ). s ∷ []) (supply-only P B t form (r .0) (r .2)) ∙ sym (r .1);
       reply = refl;
     }
 
@@ -223,6 +216,7 @@ module _ (w : Work) where
         is-31 = is-out;
         is-32 = is-fall;
         is-33 = (_, never);
+        is-36 = (_, never);
         is-35 = (_, either (ltb 2000 t) (not (within i (length (ps w)))) (above 2000 t) (outside i (length (ps w))));
         is-34 = _;
         tells-34 = λ fit. never;
@@ -239,88 +233,95 @@ module _ (w : Work) where
           go (inl behind) = absurd (h 35 0 (row-35 (inr (inr behind))))
           go (inr inside) = whole w (λ k x. h 31 k (row-31 k x)) k (omega arith)
 
-  told-check : (P B : ℕ) → Told (check w P B)
+  pub unaligned-tells : (form : Form) (P : ℕ) → Tells (unaligned form P (ps w)) ((Suits form (ps w) → ⊥) ⊎ (Takes form P (ps w) → ⊥))
+  unaligned-tells form P =
+      not-both (suits form (ps w)) (takes form P (ps w)) (refuted _ (suits-tells form (ps w))) (refuted _ (takes-tells form P (ps w)))
+
+  told-check : (form : Form) (P B : ℕ) → Told (check form w P B)
   unfolding tasksRows checkReply
-  told-check P B =
+  told-check form P B =
       record {
         is-30 = (_, count-out w);
         is-31 = is-out;
         is-32 = is-fall;
         is-33 = (_, out-of-range P B);
+        is-36 = (_, unaligned-tells form P);
         is-35 = (_, never);
         is-34 = _;
         tells-34 = λ fit. never;
-        values = cond (passes P (ps w) (es w) B) 1 0 ∷ [];
-        right = λ h. right h (passes P (ps w) (es w) B) refl;
-        only = λ h v r. only h (passes P (ps w) (es w) B) refl v r;
+        values = cond (passes form P (ps w) (es w) B) 1 0 ∷ [];
+        right = λ h. right h (passes form P (ps w) (es w) B) refl;
+        only = λ h v r. only h (passes form P (ps w) (es w) B) refl v r;
         reply = refl;
       }
     where
-      pass : NoRow (check w P B) → passes P (ps w) (es w) B ≡ true → Pass P B (ps w) (es w)
-      pass h = passes-means P B (ps w) (es w) (positive P (λ x. h 33 0 (row-33 (inl x)))) (whole w (λ k x. h 31 k (row-31 k x))) .0
+      pass : NoRow (check form w P B) → passes form P (ps w) (es w) B ≡ true → Pass form P B (ps w) (es w)
+      pass h = passes-means form P B (ps w) (es w) (positive P (λ x. h 33 0 (row-33 (inl x)))) (whole w (λ k x. h 31 k (row-31 k x))) .0
 
-      right : NoRow (check w P B) → (b : Bool) → passes P (ps w) (es w) B ≡ b → Result (check w P B) (cond b 1 0 ∷ [])
+      right : NoRow (check form w P B) → (b : Bool) → passes form P (ps w) (es w) B ≡ b → Result (check form w P B) (cond b 1 0 ∷ [])
       right h true e = inl (refl, pass h e)
-      right h false e = inr (refl, λ p. clash (pass-passes P B (ps w) (es w) p) e)
+      right h false e = inr (refl, λ p. clash (pass-passes form P B (ps w) (es w) p) e)
 
-      only : NoRow (check w P B) → (b : Bool) → passes P (ps w) (es w) B ≡ b → (v : List ℕ) → Result (check w P B) v → cond b 1 0 ∷ [] ≡ v
+      only : NoRow (check form w P B) → (b : Bool) → passes form P (ps w) (es w) B ≡ b → (v : List ℕ) → Result (check form w P B) v → cond b 1 0 ∷ [] ≡ v
       only h true e v (inl r) = sym (r .0)
       only h true e v (inr r) = absurd (r .1 (pass h e))
-      only h false e v (inl r) = absurd (clash (pass-passes P B (ps w) (es w) (r .1)) e)
+      only h false e v (inl r) = absurd (clash (pass-passes form P B (ps w) (es w) (r .1)) e)
       only h false e v (inr r) = sym (r .0)
 
   -- a budget of 0 stands for none
   none : (x : ℕ) (A : Type 0) → (x ≡ 0 → A) → (A → x ≡ 0) → Tells (eqb x 0) A
   none x A there back = (λ e. there (eqb-true x 0 e), λ e a. eqb-false x 0 e (back a))
 
-  told-least : (P : ℕ) → Told (least w P)
+  told-least : (form : Form) (P : ℕ) → Told (least form w P)
   unfolding tasksRows leastReply
-  told-least P =
+  told-least form P =
       record {
         is-30 = (_, count-out w);
         is-31 = is-out;
         is-32 = is-fall;
         is-33 = (_, outside P 2000);
+        is-36 = (_, unaligned-tells form P);
         is-35 = (_, never);
         is-34 = _;
-        tells-34 = λ fit. let m = least-none P (ps w) (es w) (whole w fit) in none (leastOf P (ps w) (es w)) _ (m .0) (m .1);
-        values = leastOf P (ps w) (es w) ∷ [];
+        tells-34 = λ fit. let m = least-none form P (ps w) (es w) (whole w fit) in none (leastOf form P (ps w) (es w)) _ (m .0) (m .1);
+        values = leastOf form P (ps w) (es w) ∷ [];
         right = λ h.
             let fit = whole w (λ k x. h 31 k (row-31 k x)) in
-            let some : leastOf P (ps w) (es w) ≡ 0 → ⊥ = λ z. h 34 0 (row-34 (least-none P (ps w) (es w) fit .0 z)) in
-            (leastOf P (ps w) (es w), refl, least-means P (ps w) (es w) fit (omega arith));
-        only = λ h v r. ap (λ (B : ℕ). B ∷ []) (least-only P (ps w) (es w) (whole w (λ k x. h 31 k (row-31 k x))) (r .0) (r .2)) ∙ sym (r .1);
+            let some : leastOf form P (ps w) (es w) ≡ 0 → ⊥ = λ z. h 34 0 (row-34 (least-none form P (ps w) (es w) fit .0 z)) in
+            (leastOf form P (ps w) (es w), refl, least-means form P (ps w) (es w) fit (omega arith));
+        only = λ h v r. ap (λ (B : ℕ). B ∷ []) (least-only form P (ps w) (es w) (whole w (λ k x. h 31 k (row-31 k x))) (r .0) (r .2)) ∙ sym (r .1);
         reply = refl;
       }
 
-  told-best : (P-max : ℕ) → Told (best w P-max)
+  told-best : (form : Form) (P-max : ℕ) → Told (best form w P-max)
   unfolding tasksRows bestReply
-  told-best P-max =
+  told-best form P-max =
       record {
         is-30 = (_, count-out w);
         is-31 = is-out;
         is-32 = is-fall;
         is-33 = (_, outside P-max 2000);
+        is-36 = (_, refuted (suits form (ps w)) (suits-tells form (ps w)));
         is-35 = (_, never);
         is-34 = _;
-        tells-34 = λ fit. let m = best-none (ps w) (es w) (whole w fit) P-max in none (bestOf (ps w) (es w) P-max .budget) _ (m .0) (m .1);
-        values = bestOf (ps w) (es w) P-max .period ∷ bestOf (ps w) (es w) P-max .budget ∷ [];
+        tells-34 = λ fit. let m = best-none form (ps w) (es w) (whole w fit) P-max in none (bestOf form (ps w) (es w) P-max .budget) _ (m .0) (m .1);
+        values = bestOf form (ps w) (es w) P-max .period ∷ bestOf form (ps w) (es w) P-max .budget ∷ [];
         right = λ h.
             let fit = whole w (λ k x. h 31 k (row-31 k x)) in
-            let some : bestOf (ps w) (es w) P-max .budget ≡ 0 → ⊥ = λ z. h 34 0 (row-34 (best-none (ps w) (es w) fit P-max .0 z)) in
-            (bestOf (ps w) (es w) P-max, refl, best-means (ps w) (es w) fit P-max (omega arith));
+            let some : bestOf form (ps w) (es w) P-max .budget ≡ 0 → ⊥ = λ z. h 34 0 (row-34 (best-none form (ps w) (es w) fit P-max .0 z)) in
+            (bestOf form (ps w) (es w) P-max, refl, best-means form (ps w) (es w) fit P-max (omega arith));
         only = λ h v r.
-            ap (λ (s : Share). s .period ∷ s .budget ∷ []) (best-only (ps w) (es w) (whole w (λ k x. h 31 k (row-31 k x))) P-max (r .0) (r .2))
+            ap (λ (s : Share). s .period ∷ s .budget ∷ []) (best-only form (ps w) (es w) (whole w (λ k x. h 31 k (row-31 k x))) P-max (r .0) (r .2))
             ∙ sym (r .1);
         reply = refl;
       }
 
 told : (asked : Asked) → Told asked
-told (supply P B t) = told-supply P B t
+told (supply form P B t) = told-supply form P B t
 told (demand w i t) = told-demand w i t
-told (check w P B) = told-check w P B
-told (least w P) = told-least w P
-told (best w P-max) = told-best w P-max
+told (check form w P B) = told-check w form P B
+told (least form w P) = told-least w form P
+told (best form w P-max) = told-best w form P-max
 
 -- the first place of its kind is one
 one-place : (Such : Work → ℕ → Type 0) (w : Work) (k j : ℕ) → FirstTask Such k w → FirstTask Such j w → k ≡ j
@@ -350,13 +351,14 @@ module _ (asked : Asked) where
           go (inl l) = a p d l r
           go (inr e) = let here : p ≡ place = omega arith in tells .1 refl d (subst (λ (q : ℕ). Row asked (getD rows q 0) d) here r)
 
-  bottom : Above 6 → NoRow asked
+  bottom : Above 7 → NoRow asked
   bottom a n d (row-30 x) = a 0 0 (omega arith) (row-30 x)
   bottom a n d (row-31 k x) = a 1 k (omega arith) (row-31 k x)
   bottom a n d (row-32 k x) = a 2 k (omega arith) (row-32 k x)
   bottom a n d (row-33 x) = a 3 0 (omega arith) (row-33 x)
-  bottom a n d (row-35 x) = a 4 0 (omega arith) (row-35 x)
-  bottom a n d (row-34 x) = a 5 0 (omega arith) (row-34 x)
+  bottom a n d (row-36 x) = a 4 0 (omega arith) (row-36 x)
+  bottom a n d (row-35 x) = a 5 0 (omega arith) (row-35 x)
+  bottom a n d (row-34 x) = a 6 0 (omega arith) (row-34 x)
 
   -- a test of what a row says is a test of the row
   same : {A : ℕ → Type 0} {b : Bool} {d n : ℕ} → TellsDetail b d A → (A d → Row asked n d) → ((e : ℕ) → Row asked n e → A e)
@@ -378,6 +380,9 @@ module _ (asked : Asked) where
   of-33 : (d : ℕ) → Row asked 33 d → ShareOut asked
   of-33 d (row-33 x) = x
 
+  pub of-36 : (d : ℕ) → Row asked 36 d → NotAligned asked
+  of-36 d (row-36 x) = x
+
   of-35 : (d : ℕ) → Row asked 35 d → LengthOut asked
   of-35 d (row-35 x) = x
 
@@ -393,9 +398,10 @@ module _ (asked : Asked) where
       (λ e. step o 1 _ _ _ e (same (t .is-31 .2) (row-31 _) of-31)
       (λ e. step o 2 _ _ _ e (same (t .is-32 .2) (row-32 _) of-32)
       (λ e. step o 3 _ _ _ e (plain (t .is-33 .1) row-33 of-33)
-      (λ e. step o 4 _ _ _ e (plain (t .is-35 .1) row-35 of-35)
-      (λ e a. step o 5 _ _ _ e (plain (t .tells-34 (λ k x. a 1 k (omega arith) (row-31 k x))) row-34 of-34)
-      (λ e a. subst Says e (bottom a, t .right (bottom a))) a))))) (λ p d h r. absurd (omega arith))
+      (λ e. step o 4 _ _ _ e (plain (t .is-36 .1) row-36 of-36)
+      (λ e. step o 5 _ _ _ e (plain (t .is-35 .1) row-35 of-35)
+      (λ e a. step o 6 _ _ _ e (plain (t .tells-34 (λ k x. a 1 k (omega arith) (row-31 k x))) row-34 of-34)
+      (λ e a. subst Says e (bottom a, t .right (bottom a))) a)))))) (λ p d h r. absurd (omega arith))
 
   -- of two that are first neither stands above the other
   one-first : (n m d k : ℕ) → First asked n d → First asked m k → n ≡ m
@@ -408,17 +414,18 @@ module _ (asked : Asked) where
 
   -- a row has one detail
   one-task : (a : Asked) (Such : Work → ℕ → Type 0) (k j : ℕ) → OfTasks (FirstTask Such k) a → OfTasks (FirstTask Such j) a → k ≡ j
-  one-task (supply P B t) Such k j x y = absurd x
+  one-task (supply form P B t) Such k j x y = absurd x
   one-task (demand w i t) Such k j x y = one-place Such w k j x y
-  one-task (check w P B) Such k j x y = one-place Such w k j x y
-  one-task (least w P) Such k j x y = one-place Such w k j x y
-  one-task (best w P-max) Such k j x y = one-place Such w k j x y
+  one-task (check form w P B) Such k j x y = one-place Such w k j x y
+  one-task (least form w P) Such k j x y = one-place Such w k j x y
+  one-task (best form w P-max) Such k j x y = one-place Such w k j x y
 
   one-detail : (n d e : ℕ) → Row asked n d → Row asked n e → d ≡ e
   one-detail n d e (row-30 x) (row-30 y) = refl
   one-detail n d e (row-31 k x) (row-31 j y) = one-task asked TaskOut k j x y
   one-detail n d e (row-32 k x) (row-32 j y) = one-task asked PeriodFalls k j x y
   one-detail n d e (row-33 x) (row-33 y) = refl
+  one-detail n d e (row-36 x) (row-36 y) = refl
   one-detail n d e (row-35 x) (row-35 y) = refl
   one-detail n d e (row-34 x) (row-34 y) = refl
 

@@ -2,8 +2,8 @@
 -- Assumes nothing.
 use Prim.Native.Nat.{ℕ, _≤_, _<_}
 use mathlib.Core.Path.{_≡_, refl, sym}
-use mathlib.Core.Bool.{Bool, true, false, _&&_, _||_}
-use mathlib.Core.Logic.{_⊎_, inl, inr}
+use mathlib.Core.Bool.{Bool, true, false, not, _&&_, _||_}
+use mathlib.Core.Logic.{_⊎_, inl, inr, ⊎-elim}
 use native.Mathlib.Omega.{arith}
 use lib.Dec.{ltb}
 use borrow.Author.Tests.{ltb-true, ltb-false}
@@ -62,3 +62,21 @@ neither-below m n f g = go (below-or-from m n) (below-or-from n m)
     go (inl l) k = absurd (f l)
     go (inr h) (inl l) = absurd (g l)
     go (inr h) (inr k) = omega arith
+
+-- a test tells a fact: it holds where the fact does, and only there
+abbrev pub Tells : Bool → Type 0 → Type 0
+Tells b A = (b ≡ true → A) × (b ≡ false → A → ⊥)
+
+pub never : Tells false ⊥
+never = (λ e. absurd (clash e refl), λ e a. a)
+
+pub always : Tells true Unit
+always = (λ e. tt, λ e. absurd (clash refl e))
+
+pub either : {A B : Type 0} (a b : Bool) → Tells a A → Tells b B → Tells (a || b) (A ⊎ B)
+either true b x y = (λ e. inl (x .0 refl), λ e o. clash refl e)
+either false b x y = (λ e. inr (y .0 e), λ e. ⊎-elim (x .1 refl) (y .1 e))
+
+pub refuted : {A : Type 0} (a : Bool) → Tells a A → Tells (not a) (A → ⊥)
+refuted true x = (λ e. absurd (clash e refl), λ e n. n (x .0 refl))
+refuted false x = (λ e. x .1 refl, λ e n. clash refl e)

@@ -2,6 +2,7 @@
 -- Assumes nothing.
 use Prim.Native.Nat.{ℕ}
 use mathlib.Core.List.{List}
+use Rattle.model.specs.Form.{Form}
 use Rattle.model.specs.Reply.{Reply}
 use Rattle.model.specs.Rows.{supplyReply, demandReply, checkReply, leastReply, bestReply}
 
@@ -10,18 +11,18 @@ pub record Work : Type 0 where
   pub periods : List ℕ
   pub costs : List ℕ
 
--- supply P B t; demand work i t; check work P B; least work P; best work P-max
+-- supply form P B t; demand work i t; check form work P B; least form work P; best form work P-max
 pub data Asked : Type 0 where
-  supply : ℕ → ℕ → ℕ → Asked
+  supply : Form → ℕ → ℕ → ℕ → Asked
   demand : Work → ℕ → ℕ → Asked
-  check : Work → ℕ → ℕ → Asked
-  least : Work → ℕ → Asked
-  best : Work → ℕ → Asked
+  check : Form → Work → ℕ → ℕ → Asked
+  least : Form → Work → ℕ → Asked
+  best : Form → Work → ℕ → Asked
 
 -- the complete reply of the public function that is asked
 abbrev pub replyTo : Asked → Reply
-replyTo (supply P B t) = supplyReply P B t
+replyTo (supply form P B t) = supplyReply form P B t
 replyTo (demand w i t) = demandReply (w .periods) (w .costs) i t
-replyTo (check w P B) = checkReply (w .periods) (w .costs) P B
-replyTo (least w P) = leastReply (w .periods) (w .costs) P
-replyTo (best w P-max) = bestReply (w .periods) (w .costs) P-max
+replyTo (check form w P B) = checkReply form (w .periods) (w .costs) P B
+replyTo (least form w P) = leastReply form (w .periods) (w .costs) P
+replyTo (best form w P-max) = bestReply form (w .periods) (w .costs) P-max

@@ -1,11 +1,12 @@
--- Document 01, "Reply numbers", rows 30 to 35, in the table's order, with document 02's details, and the complete reply of each public
--- function of `shares`. Assumes nothing.
+-- Document 01, "Reply numbers", rows 30 to 35, in the table's order, with document 02's details and its row 36, and the complete reply of
+-- each public function of `shares`. Assumes nothing.
 use Prim.Native.Nat.{ℕ, _-_}
 use mathlib.Core.Bool.{Bool, true, false, cond, not, _&&_, _||_}
 use mathlib.Core.List.{List, [], _∷_}
 use lib.Dec.{leb, ltb, eqb}
 use lib.ListN.{length, getD}
 use Rattle.model.specs.Search.{first}
+use Rattle.model.specs.Form.{Form, suits, takes}
 use Rattle.model.specs.Supply.{supplyOf}
 use Rattle.model.specs.Demand.{demandOf}
 use Rattle.model.specs.Share.{passes, leastOf, bestOf}
@@ -52,11 +53,11 @@ tasksRows periods costs rest =
     rest))
 
 -- rows 33, 35
-unfoldable pub supplyReply : ℕ → ℕ → ℕ → Reply
-supplyReply P B t =
+unfoldable pub supplyReply : Form → ℕ → ℕ → ℕ → Reply
+supplyReply form P B t =
     row (not (inRange P B)) 33 0
     (row (ltb 2000 t) 35 0
-    (gives (supplyOf P B t ∷ [])))
+    (gives (supplyOf form P B t ∷ [])))
 
 -- rows 30 to 32, 35
 unfoldable pub demandReply : List ℕ → List ℕ → ℕ → ℕ → Reply
@@ -65,25 +66,32 @@ demandReply periods costs i t =
     (row (ltb 2000 t || not (within i (length periods))) 35 0
     (gives (demandOf periods costs i t ∷ [])))
 
--- rows 30 to 33
-unfoldable pub checkReply : List ℕ → List ℕ → ℕ → ℕ → Reply
-checkReply periods costs P B =
+-- 36: "periods not aligned", of the form and P
+abbrev pub unaligned : Form → ℕ → List ℕ → Bool
+unaligned form P periods = not (suits form periods && takes form P periods)
+
+-- rows 30 to 33, 36
+unfoldable pub checkReply : Form → List ℕ → List ℕ → ℕ → ℕ → Reply
+checkReply form periods costs P B =
     tasksRows periods costs
     (row (not (inRange P B)) 33 0
-    (gives (cond (passes P periods costs B) 1 0 ∷ [])))
+    (row (unaligned form P periods) 36 0
+    (gives (cond (passes form P periods costs B) 1 0 ∷ []))))
 
--- rows 30 to 33, 34
-unfoldable pub leastReply : List ℕ → List ℕ → ℕ → Reply
-leastReply periods costs P =
+-- rows 30 to 33, 36, 34
+unfoldable pub leastReply : Form → List ℕ → List ℕ → ℕ → Reply
+leastReply form periods costs P =
     tasksRows periods costs
     (row (not (within P 2000)) 33 0
-    (row (eqb (leastOf P periods costs) 0) 34 0
-    (gives (leastOf P periods costs ∷ []))))
+    (row (unaligned form P periods) 36 0
+    (row (eqb (leastOf form P periods costs) 0) 34 0
+    (gives (leastOf form P periods costs ∷ [])))))
 
--- rows 30 to 33, 34
-unfoldable pub bestReply : List ℕ → List ℕ → ℕ → Reply
-bestReply periods costs P-max =
+-- rows 30 to 33, 36 only where the periods "don't divide each other", 34
+unfoldable pub bestReply : Form → List ℕ → List ℕ → ℕ → Reply
+bestReply form periods costs P-max =
     tasksRows periods costs
     (row (not (within P-max 2000)) 33 0
-    (row (eqb (bestOf periods costs P-max .budget) 0) 34 0
-    (gives (bestOf periods costs P-max .period ∷ bestOf periods costs P-max .budget ∷ []))))
+    (row (not (suits form periods)) 36 0
+    (row (eqb (bestOf form periods costs P-max .budget) 0) 34 0
+    (gives (bestOf form periods costs P-max .period ∷ bestOf form periods costs P-max .budget ∷ [])))))

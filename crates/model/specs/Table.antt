@@ -1,5 +1,5 @@
--- Document 01, "Reply numbers", rows 30 to 35, with document 02's details, as plain facts: where each applies and what its detail is, that
--- the first from the top that does is given, and what is given where none does. Proved of everything that can be asked in proofs/Table.
+-- Document 01, "Reply numbers", rows 30 to 35, with document 02's details and row 36, as plain facts: where each applies and what its
+-- detail is, that the first from the top that does is given, and what is given where none does. Proved of everything that can be asked in proofs/Table.
 -- Assumes nothing.
 use Prim.Native.Nat.{ℕ, _-_, _≤_, _<_}
 use mathlib.Core.Path.{_≡_}
@@ -8,7 +8,7 @@ use mathlib.Core.List.{List, [], _∷_}
 use lib.ListN.{length, getD}
 use Rattle.model.specs.Share.{Share}
 use Rattle.model.specs.Reply.{refuses, gives}
-use Rattle.model.specs.Meaning.{IsSupply, IsDemand, Pass, IsLeast, NoBudget, IsBest, NoShare}
+use Rattle.model.specs.Meaning.{IsSupply, IsDemand, Suits, Takes, Pass, IsLeast, NoBudget, IsBest, NoShare}
 use Rattle.model.specs.Asked.{Work, Asked, supply, demand, check, least, best, replyTo}
 
 -- n is not low to high
@@ -37,35 +37,43 @@ FirstTask Such k w = Such w k × ((j : ℕ) → j < k → Such w j → ⊥)
 
 -- said of the tasks; a supply has none
 abbrev pub OfTasks : (Work → Type 0) → Asked → Type 0
-OfTasks Said (supply P B t) = ⊥
+OfTasks Said (supply form P B t) = ⊥
 OfTasks Said (demand w i t) = Said w
-OfTasks Said (check w P B) = Said w
-OfTasks Said (least w P) = Said w
-OfTasks Said (best w P-max) = Said w
+OfTasks Said (check form w P B) = Said w
+OfTasks Said (least form w P) = Said w
+OfTasks Said (best form w P-max) = Said w
 
 -- "resource period, P_max or budget out of range (budget 1 to period)"; a demand has none of them
 abbrev pub ShareOut : Asked → Type 0
-ShareOut (supply P B t) = OutOfRange P B
+ShareOut (supply form P B t) = OutOfRange P B
 ShareOut (demand w i t) = ⊥
-ShareOut (check w P B) = OutOfRange P B
-ShareOut (least w P) = Outside 1 2000 P
-ShareOut (best w P-max) = Outside 1 2000 P-max
+ShareOut (check form w P B) = OutOfRange P B
+ShareOut (least form w P) = Outside 1 2000 P
+ShareOut (best form w P-max) = Outside 1 2000 P-max
+
+-- "periods not aligned": these "don't divide each other", or P does not divide them; best skips such a P, supply and demand have no such row
+abbrev pub NotAligned : Asked → Type 0
+NotAligned (supply form P B t) = ⊥
+NotAligned (demand w i t) = ⊥
+NotAligned (check form w P B) = (Suits form (w .periods) → ⊥) ⊎ (Takes form P (w .periods) → ⊥)
+NotAligned (least form w P) = (Suits form (w .periods) → ⊥) ⊎ (Takes form P (w .periods) → ⊥)
+NotAligned (best form w P-max) = Suits form (w .periods) → ⊥
 
 -- "length asked is above 2,000, or task place isn't in the list"; only supply and demand ask for a length
 abbrev pub LengthOut : Asked → Type 0
-LengthOut (supply P B t) = 2000 < t
+LengthOut (supply form P B t) = 2000 < t
 LengthOut (demand w i t) = (2000 < t) ⊎ Outside 1 (length (w .periods)) i
-LengthOut (check w P B) = ⊥
-LengthOut (least w P) = ⊥
-LengthOut (best w P-max) = ⊥
+LengthOut (check form w P B) = ⊥
+LengthOut (least form w P) = ⊥
+LengthOut (best form w P-max) = ⊥
 
 -- "no budget passes"; only least and best look for one
 abbrev pub NonePasses : Asked → Type 0
-NonePasses (supply P B t) = ⊥
+NonePasses (supply form P B t) = ⊥
 NonePasses (demand w i t) = ⊥
-NonePasses (check w P B) = ⊥
-NonePasses (least w P) = NoBudget P (w .periods) (w .costs)
-NonePasses (best w P-max) = NoShare P-max (w .periods) (w .costs)
+NonePasses (check form w P B) = ⊥
+NonePasses (least form w P) = NoBudget form P (w .periods) (w .costs)
+NonePasses (best form w P-max) = NoShare form P-max (w .periods) (w .costs)
 
 -- the row with this number concerns what is asked, applies, and has this detail: for 31 and 32 "the first such task's place, counted from 1"
 pub data Row (asked : Asked) : ℕ → ℕ → Type 0 where
@@ -73,12 +81,13 @@ pub data Row (asked : Asked) : ℕ → ℕ → Type 0 where
   row-31 : (k : ℕ) → OfTasks (FirstTask TaskOut k) asked → Row asked 31 k
   row-32 : (k : ℕ) → OfTasks (FirstTask PeriodFalls k) asked → Row asked 32 k
   row-33 : ShareOut asked → Row asked 33 0
+  row-36 : NotAligned asked → Row asked 36 0
   row-35 : LengthOut asked → Row asked 35 0
   row-34 : NonePasses asked → Row asked 34 0
 
 -- the table from the top
 abbrev pub rows : List ℕ
-rows = 30 ∷ 31 ∷ 32 ∷ 33 ∷ 35 ∷ 34 ∷ []
+rows = 30 ∷ 31 ∷ 32 ∷ 33 ∷ 36 ∷ 35 ∷ 34 ∷ []
 
 -- "the first from the top that applies is given, whatever its number"; places in the table are counted from 0
 pub record First (asked : Asked) (number detail : ℕ) : Type 0 where
@@ -92,12 +101,12 @@ NoRow asked = (number detail : ℕ) → Row asked number detail → ⊥
 
 -- these values are the result: "passes" is 1, "doesn't" is 0
 abbrev pub Result : Asked → List ℕ → Type 0
-Result (supply P B t) values = (s : ℕ) × (values ≡ s ∷ []) × IsSupply P B t s
+Result (supply form P B t) values = (s : ℕ) × (values ≡ s ∷ []) × IsSupply P B t s form
 Result (demand w i t) values = (d : ℕ) × (values ≡ d ∷ []) × IsDemand (w .periods) (w .costs) i t d
-Result (check w P B) values =
-    ((values ≡ 1 ∷ []) × Pass P B (w .periods) (w .costs)) ⊎ ((values ≡ 0 ∷ []) × (Pass P B (w .periods) (w .costs) → ⊥))
-Result (least w P) values = (B : ℕ) × (values ≡ B ∷ []) × IsLeast P (w .periods) (w .costs) B
-Result (best w P-max) values = (s : Share) × (values ≡ s .period ∷ s .budget ∷ []) × IsBest P-max (w .periods) (w .costs) s
+Result (check form w P B) values =
+    ((values ≡ 1 ∷ []) × Pass form P B (w .periods) (w .costs)) ⊎ ((values ≡ 0 ∷ []) × (Pass form P B (w .periods) (w .costs) → ⊥))
+Result (least form w P) values = (B : ℕ) × (values ≡ B ∷ []) × IsLeast form P (w .periods) (w .costs) B
+Result (best form w P-max) values = (s : Share) × (values ≡ s .period ∷ s .budget ∷ []) × IsBest form P-max (w .periods) (w .costs) s
 
 -- "Given exactly when", with the row's detail; and there is a result exactly when no row applies
 pub record Table (asked : Asked) : Type 0 where
@@ -105,6 +114,6 @@ pub record Table (asked : Asked) : Type 0 where
   pub given : (values : List ℕ) → replyTo asked ≡ gives values ↔ NoRow asked × Result asked values
   pub answered : ((values : List ℕ) × (replyTo asked ≡ gives values)) ↔ NoRow asked
 
--- rows 30 to 33 do not apply
+-- rows 30 to 33 and 36, those above 35 and 34, do not apply
 abbrev pub Accepted : Asked → Type 0
-Accepted asked = (number detail : ℕ) → number ≤ 33 → Row asked number detail → ⊥
+Accepted asked = (place detail : ℕ) → place < 5 → Row asked (getD rows place 0) detail → ⊥

@@ -8,6 +8,7 @@ use native.Mathlib.Omega.{arith}
 use lib.Dec.{leb, ltb}
 use borrow.Author.Tests.{lt-ltb, lt-leb, leb-true, leb-false}
 use Rattle.model.proofs.Tests.{and-right, and-both}
+use Rattle.model.specs.Form.{Form}
 use Rattle.model.specs.Reply.{Reply}
 use Rattle.model.specs.Rows.{within, inRange, row, supplyReply}
 
@@ -63,8 +64,9 @@ length-alike n i i′ t t′ h (inl p) (inl q) X X′ r = rw (p, q, r p q)
 length-alike n i i′ t t′ h (inr p) (inl q) X X′ r = rw (q, far-outside i n h (p .0), far-outside i′ n h (p .1), or-true)
 length-alike n i i′ t t′ h a (inr q) X X′ r = rw (lt-ltb 2000 t (omega (arith, q .0)), lt-ltb 2000 t′ (omega (arith, q .1)))
 
-pub supply-alike : (P P′ B B′ t t′ : ℕ) → Alike 3000 P P′ → Alike 3000 B B′ → Alike 3000 t t′ → supplyReply P B t ≡ supplyReply P′ B′ t′
+pub supply-alike : (form : Form) (P P′ B B′ t t′ : ℕ) → Alike 3000 P P′ → Alike 3000 B B′ → Alike 3000 t t′
+    → supplyReply form P B t ≡ supplyReply form P′ B′ t′
 unfolding supplyReply
-supply-alike P P′ B B′ t t′ p b (inl q) = share-alike P P′ B B′ p b _ _ (λ e f. rw (e, f, q))
-supply-alike P P′ B B′ t t′ p b (inr q) =
+supply-alike form P P′ B B′ t t′ p b (inl q) = share-alike P P′ B B′ p b _ _ (λ e f. rw (e, f, q))
+supply-alike form P P′ B B′ t t′ p b (inr q) =
     share-alike P P′ B B′ p b _ _ (λ e f. rw (lt-ltb 2000 t (omega (arith, q .0)), lt-ltb 2000 t′ (omega (arith, q .1))))

@@ -1,5 +1,5 @@
 -- Task lists whose numbers are alike get the same reply: a number above every limit is refused by row 31, whatever it is, and the first
--- such task has the same place. Assumes nothing.
+-- such task has the same place. Row 36 stands behind the rows that refuse such numbers, so that it sees equal ones. Assumes nothing.
 use Prim.Native.Nat.{ℕ, _+_, _-_, _≤_, _<_}
 use mathlib.Core.Path.{_≡_, refl, ap, sym, _∙_}
 use mathlib.Core.Bool.{Bool, true, false}
@@ -10,6 +10,7 @@ use native.Mathlib.Nat.{eq-zero-or-pos}
 use lib.ListN.{length, getD}
 use lib.Seq.{ext-getD}
 use Rattle.model.specs.Search.{first}
+use Rattle.model.specs.Form.{Form}
 use Rattle.model.specs.Reply.{Reply, refuses}
 use Rattle.model.specs.Rows.{miscounted, outOfRange, firstOut, tasksRows, demandReply, checkReply, leastReply, bestReply}
 use Rattle.model.proofs.Places.{first-smallest, first-agrees}
@@ -89,14 +90,14 @@ module _ (ps es ps′ es′ : List ℕ) (a : Alikes ps ps′) (b : Alikes es es�
       tasks-alike ps es ps′ es′ a b _ _
       (λ few e f. rw (← e, ← f) (length-alike (length ps) x x′ t t′ (omega arith) p q _ _ (λ g h. rw (g, h))))
 
-  pub check-alike : (B B′ : ℕ) → Alike 3000 B B′ → checkReply ps es x B ≡ checkReply ps′ es′ x′ B′
+  pub check-alike : (form : Form) (B B′ : ℕ) → Alike 3000 B B′ → checkReply form ps es x B ≡ checkReply form ps′ es′ x′ B′
   unfolding checkReply
-  check-alike B B′ q = tasks-alike ps es ps′ es′ a b _ _ (λ few e f. rw (← e, ← f) (share-alike x x′ B B′ p q _ _ (λ g h. rw (g, h))))
+  check-alike form B B′ q = tasks-alike ps es ps′ es′ a b _ _ (λ few e f. rw (← e, ← f) (share-alike x x′ B B′ p q _ _ (λ g h. rw (g, h))))
 
-  pub least-alike : leastReply ps es x ≡ leastReply ps′ es′ x′
+  pub least-alike : (form : Form) → leastReply form ps es x ≡ leastReply form ps′ es′ x′
   unfolding leastReply
-  least-alike = tasks-alike ps es ps′ es′ a b _ _ (λ few e f. rw (← e, ← f) (period-alike x x′ p _ _ (λ g. rw g)))
+  least-alike form = tasks-alike ps es ps′ es′ a b _ _ (λ few e f. rw (← e, ← f) (period-alike x x′ p _ _ (λ g. rw g)))
 
-  pub best-alike : bestReply ps es x ≡ bestReply ps′ es′ x′
+  pub best-alike : (form : Form) → bestReply form ps es x ≡ bestReply form ps′ es′ x′
   unfolding bestReply
-  best-alike = tasks-alike ps es ps′ es′ a b _ _ (λ few e f. rw (← e, ← f) (period-alike x x′ p _ _ (λ g. rw g)))
+  best-alike form = tasks-alike ps es ps′ es′ a b _ _ (λ few e f. rw (← e, ← f) (period-alike x x′ p _ _ (λ g. rw g)))

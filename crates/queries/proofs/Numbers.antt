@@ -11,16 +11,11 @@ use lib.Seq.{drop-cons}
 use borrow.Author.Tests.{lt-ltb, leb-true, leb-false, eq-eqb, ne-eqb}
 use Rattle.model.proofs.Tests.{and-right}
 use Rattle.text.specs.Text.{numberFrom}
+use Rattle.text.proofs.Same.{none-left}
 use Rattle.queries.specs.declared.field.Number.{Number}
 use Rattle.queries.specs.declared.field.Number.the-variants.{Is, None}
-use Rattle.queries.specs.Meaning.{same, isDigit, allDigits, isNumber}
+use Rattle.queries.specs.Meaning.{isDigit, allDigits, isNumber}
 use Rattle.queries.specs.Private.{withDigit, capped, numberRead}
-
-pub none-left : (s : List ℕ) (k : ℕ) → length s ≤ k → drop k s ≡ []
-none-left [] zero h = refl
-none-left [] (suc k) h = refl
-none-left (x ∷ s) zero h = absurd (omega arith)
-none-left (x ∷ s) (suc k) h = none-left s k (omega arith)
 
 -- more digits make no number smaller
 number-grows : (n : ℕ) (f : List ℕ) → n ≤ numberFrom n f
@@ -65,22 +60,3 @@ module _ (f : List ℕ) where
 
   pub read-number : (n : ℕ) → 0 < length f → allDigits f ≡ true → n ≡ capped f → Is n ≡ numberRead f
   read-number n some e m = rw (lt-ltb 0 (length f) some, e, m)
-
--- two texts that are compared byte by byte
-pub same-sizes : (s w : List ℕ) → (length s ≡ length w → ⊥) → same s w ≡ false
-same-sizes [] [] h = absurd (h refl)
-same-sizes [] (y ∷ w) h = refl
-same-sizes (x ∷ s) [] h = refl
-same-sizes (x ∷ s) (y ∷ w) h = and-right (eqb x y) (same s w) (same-sizes s w (λ e. h (omega arith)))
-
-module _ (s w : List ℕ) (k : ℕ) (inside : k < length s) (within : k < length w) where
-  same-here : same (drop k s) (drop k w) ≡ (eqb (getD s k 0) (getD w k 0) && same (drop (suc k) s) (drop (suc k) w))
-  same-here = ap (λ (l : List ℕ). same l (drop k w)) (drop-cons s k 0 inside)
-      ∙ ap (same (getD s k 0 ∷ drop (suc k) s)) (drop-cons w k 0 within)
-
-  pub same-next : getD s k 0 ≡ getD w k 0 → same (drop k s) (drop k w) ≡ same (drop (k + 1) s) (drop (k + 1) w)
-  same-next e =
-      rw add-one (same-here ∙ ap (λ (t : Bool). t && same (drop (suc k) s) (drop (suc k) w)) (eq-eqb (getD s k 0) (getD w k 0) e))
-
-  pub same-not : (getD s k 0 ≡ getD w k 0 → ⊥) → same (drop k s) (drop k w) ≡ false
-  same-not e = same-here ∙ ap (λ (t : Bool). t && same (drop (suc k) s) (drop (suc k) w)) (ne-eqb (getD s k 0) (getD w k 0) e)

@@ -7,6 +7,7 @@ use native.Mathlib.Omega.{arith}
 use lib.Dec.{eqb}
 use lib.ListN.{length, take, drop, length-drop}
 use lib.Seq.{drop-drop, take-all}
+use borrow.Author.Tests.{eqb-false}
 use Rattle.bytes.specs.Bytes.{indexOf, indexAfter, slice}
 use Rattle.queries.specs.Meaning.{until, behind}
 use Rattle.queries.specs.Private.{piecesFrom}
@@ -69,6 +70,9 @@ found b s from r e =
 module _ (b : ℕ) (s : List ℕ) (from end : ℕ) (inside : from ≤ length s) (e : end ≡ from + length (until b (drop from s))) where
   pub end-inside : (from ≤ end) × (end ≤ length s)
   end-inside = (omega arith, omega (arith, until-few b (drop from s), length-drop from s))
+
+  pub next-inside : eqb end (length s) ≡ false → end + 1 ≤ length s
+  next-inside on = omega (arith, end-inside, eqb-false end (length s) on)
 
   pub piece-is : take (end - from) (drop from s) ≡ until b (drop from s)
   piece-is =

@@ -11,6 +11,7 @@ use lib.Dec.{leb}
 use lib.ListN.{length, getD, take, drop, length-drop, length-map, List·getD-map}
 use lib.Seq.{getD-take, getD-drop, length-take-le}
 use borrow.Author.Tests.{lt-leb}
+use Rattle.model.specs.Form.{Form}
 use Rattle.model.specs.Asked.{Work, replyTo}
 use Rattle.model.specs.Reply.{Reply}
 use Rattle.model.specs.Rows.{miscounted, tasksRows, demandReply, checkReply, leastReply, bestReply}
@@ -125,32 +126,32 @@ module _ (fs : List (List ℕ)) (numbers : List ℕ) (k : Kept fs numbers) where
     tasks-same X Y r = ⊎-elim (λ m. many-rows m X Y) (λ l. r (periods-alike l) (costs-alike l)) (below-or-from 34 n)
 
   -- the reply to the kept numbers is that to the line's
-  pub kept-reply : (w : Word) (ps es : List ℕ) → heads w ≤ length fs → length ps ≡ 17 → length es ≡ 17 → EveryOther numbers (heads w) ps
+  pub kept-reply : (form : Form) (w : Word) (ps es : List ℕ) → heads w ≤ length fs → length ps ≡ 17 → length es ≡ 17 → EveryOther numbers (heads w) ps
       → EveryOther numbers (heads w + 1) es
-      → replyTo (question w (getD numbers 0 0) (getD numbers 1 0) (getD numbers 2 0)
-      (record { periods = take (periodsOf (length fs - heads w)) ps; costs = take (costsOf (length fs - heads w)) es })) ≡ replyTo (asks w ns)
+      → replyTo (question form w (getD numbers 0 0) (getD numbers 1 0) (getD numbers 2 0)
+      (record { periods = take (periodsOf (length fs - heads w)) ps; costs = take (costsOf (length fs - heads w)) es })) ≡ replyTo (asks form w ns)
   unfolding demandReply checkReply leastReply bestReply
-  kept-reply Supply ps es h s t p e =
-      supply-alike _ _ _ _ _ _ (alike-at 0 (omega arith) (omega arith)) (alike-at 1 (omega arith) (omega arith))
+  kept-reply form Supply ps es h s t p e =
+      supply-alike form _ _ _ _ _ _ (alike-at 0 (omega arith) (omega arith)) (alike-at 1 (omega arith) (omega arith))
       (alike-at 2 (omega arith) (omega arith))
-  kept-reply Demand ps es h s t p e =
+  kept-reply form Demand ps es h s t p e =
       tasks-same 2 ps es h (omega arith) s t p e _ _
       (λ a b. demand-alike _ _ _ _ a b _ _ (alike-at 0 (omega arith) (omega arith)) _ _ (alike-at 1 (omega arith) (omega arith)))
-  kept-reply Check ps es h s t p e =
+  kept-reply form Check ps es h s t p e =
       tasks-same 2 ps es h (omega arith) s t p e _ _
-      (λ a b. check-alike _ _ _ _ a b _ _ (alike-at 0 (omega arith) (omega arith)) _ _ (alike-at 1 (omega arith) (omega arith)))
-  kept-reply Least ps es h s t p e =
-      tasks-same 1 ps es h (omega arith) s t p e _ _ (λ a b. least-alike _ _ _ _ a b _ _ (alike-at 0 (omega arith) (omega arith)))
-  kept-reply Best ps es h s t p e =
-      tasks-same 1 ps es h (omega arith) s t p e _ _ (λ a b. best-alike _ _ _ _ a b _ _ (alike-at 0 (omega arith) (omega arith)))
+      (λ a b. check-alike _ _ _ _ a b _ _ (alike-at 0 (omega arith) (omega arith)) form _ _ (alike-at 1 (omega arith) (omega arith)))
+  kept-reply form Least ps es h s t p e =
+      tasks-same 1 ps es h (omega arith) s t p e _ _ (λ a b. least-alike _ _ _ _ a b _ _ (alike-at 0 (omega arith) (omega arith)) form)
+  kept-reply form Best ps es h s t p e =
+      tasks-same 1 ps es h (omega arith) s t p e _ _ (λ a b. best-alike _ _ _ _ a b _ _ (alike-at 0 (omega arith) (omega arith)) form)
 
 -- so what the word asks is answered, with the counts as the code has them
-pub asked-reply : (w : Word) (numbers : List ℕ) (count h p c : ℕ) (ps es text : List ℕ) → h ≡ heads w → p ≡ periodsOf (count - h)
+pub asked-reply : (form : Form) (w : Word) (numbers : List ℕ) (count h p c : ℕ) (ps es text : List ℕ) → h ≡ heads w → p ≡ periodsOf (count - h)
     → c ≡ costsOf (count - h) → length ps ≡ 17 → length es ≡ 17 → EveryOther numbers h ps → EveryOther numbers (h + 1) es → heads w ≤ count
-    → text ≡ lineOf (replyTo (question w (getD numbers 0 0) (getD numbers 1 0) (getD numbers 2 0) (record { periods = take p ps; costs = take c es })))
-    → Answers w numbers count text
-asked-reply w numbers count h p c ps es text eh ep ec s t a b inside e fs k n =
+    → text ≡ lineOf (replyTo (question form w (getD numbers 0 0) (getD numbers 1 0) (getD numbers 2 0) (record { periods = take p ps; costs = take c es })))
+    → Answers form w numbers count text
+asked-reply form w numbers count h p c ps es text eh ep ec s t a b inside e fs k n =
     e
     ∙ rw (ep, ec, eh, n)
-    (ap lineOf (kept-reply fs numbers k w ps es (omega arith) s t (subst (λ (i : ℕ). EveryOther numbers i ps) eh a)
+    (ap lineOf (kept-reply fs numbers k form w ps es (omega arith) s t (subst (λ (i : ℕ). EveryOther numbers i ps) eh a)
     (subst (λ (i : ℕ). EveryOther numbers (i + 1) es) eh b)))

@@ -12,7 +12,7 @@ use Rattle.queries.specs.Text.{help}
 use Rattle.queries.specs.Private.{headText}
 
 -- no text is longer than that of help
-pub head-few : (h : Head) → length (headText h) ≤ 119
+pub head-few : (h : Head) → length (headText h) ≤ 216
 unfolding help
 head-few Ok = omega arith
 head-few No = omega arith

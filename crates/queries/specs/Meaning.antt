@@ -4,7 +4,8 @@ use mathlib.Core.Bool.{Bool, true, false, cond, not, _&&_, _||_}
 use mathlib.Core.List.{List, [], _∷_, _++_, map}
 use lib.Dec.{leb, ltb, eqb}
 use lib.ListN.{length, getD, take, drop}
-use Rattle.text.specs.Text.{number}
+use Rattle.text.specs.Text.{number, same}
+use Rattle.model.specs.Form.{Form, ordinary, aligned}
 use Rattle.model.specs.Asked.{Work, Asked, supply, demand, check, least, best, replyTo}
 use Rattle.queries.specs.declared.ask.Word.{Word}
 use Rattle.queries.specs.declared.ask.Word.the-variants.{Supply, Demand, Check, Least, Best}
@@ -21,12 +22,6 @@ until b (x ∷ xs) = cond (eqb x b) [] (x ∷ until b xs)
 abbrev pub behind : ℕ → List ℕ → List (List ℕ)
 behind b [] = []
 behind b (x ∷ xs) = cond (eqb x b) (until b xs ∷ behind b xs) (behind b xs)
-
-abbrev pub same : List ℕ → List ℕ → Bool
-same [] [] = true
-same [] (y ∷ ys) = false
-same (x ∷ xs) [] = false
-same (x ∷ xs) (y ∷ ys) = eqb x y && same xs ys
 
 -- "supply", "demand", "check", "least", "best", "help"
 unfoldable pub spokenOf : List ℕ → Spoken
@@ -77,36 +72,59 @@ everyOther t [] = []
 everyOther true (x ∷ xs) = x ∷ everyOther false xs
 everyOther false (x ∷ xs) = everyOther true xs
 
--- what the word asks, with the first three numbers and the tasks
-abbrev pub question : Word → ℕ → ℕ → ℕ → Work → Asked
-question Supply a b c w = supply a b c
-question Demand a b c w = demand w a b
-question Check a b c w = check w a b
-question Least a b c w = least w a
-question Best a b c w = best w a
+-- what the word asks in this form, with the first three numbers and the tasks; a demand is the same in both
+abbrev pub question : Form → Word → ℕ → ℕ → ℕ → Work → Asked
+question form Supply a b c w = supply form a b c
+question form Demand a b c w = demand w a b
+question form Check a b c w = check form w a b
+question form Least a b c w = least form w a
+question form Best a b c w = best form w a
 
 -- a period and a cost after the other
 abbrev pub tasks : List ℕ → Work
 tasks ns = record { periods = everyOther true ns; costs = everyOther false ns }
 
 -- what the word asks, with these numbers as its fields: its tasks stand behind its own
-abbrev pub asks : Word → List ℕ → Asked
-asks w ns = question w (getD ns 0 0) (getD ns 1 0) (getD ns 2 0) (tasks (drop (heads w) ns))
+abbrev pub asks : Form → Word → List ℕ → Asked
+asks form w ns = question form w (getD ns 0 0) (getD ns 1 0) (getD ns 2 0) (tasks (drop (heads w) ns))
 
 -- bad field and its place, unless that is 0
 abbrev pub unlessBad : ℕ → List ℕ → List ℕ
 unlessBad k rest = cond (eqb k 0) rest (said badField (k ∷ []))
 
-abbrev pub fieldsMean : Spoken → List (List ℕ) → List ℕ
-fieldsMean Unknown fields = said badWord []
-fieldsMean Help [] = said help []
-fieldsMean Help (f ∷ fs) = said badField (1 ∷ [])
-fieldsMean (Known w) fields = unlessBad (firstBad w 1 fields) (lineOf (replyTo (asks w (map number fields))))
+abbrev pub fieldsMean : Form → Spoken → List (List ℕ) → List ℕ
+fieldsMean form Unknown fields = said badWord []
+fieldsMean form Help [] = said help []
+fieldsMean form Help (f ∷ fs) = said badField (1 ∷ [])
+fieldsMean form (Known w) fields = unlessBad (firstBad w 1 fields) (lineOf (replyTo (asks form w (map number fields))))
 
--- a word, and behind each space a field; an empty line is answered nothing
+-- "aligned" stands before four words; the others are unknown there
+abbrev pub wordIn : Form → Spoken → Spoken
+wordIn ordinary spoken = spoken
+wordIn aligned (Known Supply) = Known Supply
+wordIn aligned (Known Demand) = Unknown
+wordIn aligned (Known Check) = Known Check
+wordIn aligned (Known Least) = Known Least
+wordIn aligned (Known Best) = Known Best
+wordIn aligned Help = Unknown
+wordIn aligned Unknown = Unknown
+
+-- a word and its fields; no piece is no word
+abbrev pub piecesMean : Form → List (List ℕ) → List ℕ
+piecesMean form [] = said badWord []
+piecesMean form (word ∷ fields) = fieldsMean form (wordIn form (spokenOf word)) fields
+
+-- "aligned"
+abbrev pub isAligned : List ℕ → Bool
+isAligned word = same word (97 ∷ 108 ∷ 105 ∷ 103 ∷ 110 ∷ 101 ∷ 100 ∷ [])
+
+-- a word, and behind each space a field; behind "aligned" the next piece is the word. An empty line is answered nothing
 abbrev pub bytesMean : List ℕ → List ℕ
 bytesMean [] = []
-bytesMean (b ∷ bs) = fieldsMean (spokenOf (until 32 (b ∷ bs))) (behind 32 (b ∷ bs))
+bytesMean (b ∷ bs) =
+    cond (isAligned (until 32 (b ∷ bs)))
+    (piecesMean aligned (behind 32 (b ∷ bs)))
+    (piecesMean ordinary (until 32 (b ∷ bs) ∷ behind 32 (b ∷ bs)))
 
 -- a carriage return at the end is dropped
 abbrev pub trimmed : List ℕ → List ℕ

@@ -2,12 +2,14 @@
 -- Assumes nothing.
 use Prim.Native.Nat.{ℕ, _+_, _-_, _*_, _/_, _≤_, _<_, min}
 use mathlib.Core.Path.{_≡_}
-use mathlib.Core.Bool.{cond}
+use mathlib.Core.Bool.{true, false, cond}
 use mathlib.Core.List.{List, [], _∷_, map}
 use lib.Dec.{ltb}
 use lib.ListN.{length, getD, set, take, drop}
 use Rattle.text.specs.Text.{ok, no, number}
+use Rattle.model.specs.Form.{Form}
 use Rattle.model.specs.Asked.{replyTo}
+use Rattle.shares.specs.Paper.{paperForm}
 use Rattle.queries.specs.declared.answers.Head.{Head}
 use Rattle.queries.specs.declared.answers.Head.the-variants.{Ok, No, BadWord, BadField, BadLine, Help}
 use Rattle.queries.specs.declared.answers.Answer.{Answer}
@@ -15,8 +17,9 @@ use Rattle.queries.specs.declared.field.Number.{Number}
 use Rattle.queries.specs.declared.field.Number.the-variants.{Is, None}
 use Rattle.queries.specs.declared.ask.Word.{Word}
 use Rattle.queries.specs.declared.ask.Fields.{Fields}
+use Rattle.queries.specs.declared.ask.Begun.{Begun}
 use Rattle.queries.specs.Text.{said, badWord, badField, badLine, help, lineOf}
-use Rattle.queries.specs.Meaning.{until, behind, isNumber, firstBad, asks}
+use Rattle.queries.specs.Meaning.{until, behind, isNumber, firstBad, asks, piecesMean, bytesMean}
 
 abbrev pub headText : Head → List ℕ
 headText Ok = ok
@@ -68,7 +71,14 @@ costsOf n = min n 34 / 2
 abbrev pub EveryOther : List ℕ → ℕ → List ℕ → Type 0
 EveryOther numbers from r = (i : ℕ) → i < 17 → getD r i 0 ≡ getD numbers (from + 2 * i) 0
 
--- the text is what the word asks with the numbers of any `count` fields of which these are kept
-abbrev pub Answers : Word → List ℕ → ℕ → List ℕ → Type 0
-Answers w numbers count text =
-    (fs : List (List ℕ)) → Kept fs numbers → count ≡ length fs → text ≡ lineOf (replyTo (asks w (map number fs)))
+-- the text is what the word asks in this form with the numbers of any `count` fields of which these are kept
+abbrev pub Answers : Form → Word → List ℕ → ℕ → List ℕ → Type 0
+Answers form w numbers count text =
+    (fs : List (List ℕ)) → Kept fs numbers → count ≡ length fs → text ≡ lineOf (replyTo (asks form w (map number fs)))
+
+-- where the word begins and ends, and its form: what stands there means what the line means; or it is lost
+pub record BegunAt (line : List ℕ) (r : Begun) : Type 0 where
+  pub lost : r .lost ≡ true → said badWord [] ≡ bytesMean line
+  pub begins : r .lost ≡ false → r .from ≤ length line
+  pub ends : r .lost ≡ false → r .end ≡ r .from + length (until 32 (drop (r .from) line))
+  pub means : r .lost ≡ false → piecesMean (paperForm (r .form)) (piecesFrom 32 (r .from) line) ≡ bytesMean line

@@ -1,4 +1,4 @@
-// What a line asks: its word, its fields, and the question that it puts to `shares`.
+// What a line asks: its form, its word, its fields, and the question that it puts to `shares`.
 use crate::answers::Answer;
 use crate::answers::Head;
 use crate::answers::bad_field;
@@ -9,17 +9,20 @@ use crate::answers::of_verdict;
 use crate::answers::text_alone;
 use crate::field::Number;
 use crate::field::find;
-use crate::field::is_same;
 use crate::field::number_of;
+use shares::Form;
+use text::is_same;
 ghost use mathlib.Core.Path.{_≡_};
 ghost use mathlib.Core.List.{[]};
 ghost use Prim.Native.Nat.{_+_, _-_, _^_, _≤_, _<_};
-ghost use lib.ListN.{length};
+ghost use lib.ListN.{length, drop};
+ghost use Rattle.model.specs.Form.{aligned};
 ghost use Rattle.model.specs.Asked.{Work, replyTo};
+ghost use Rattle.shares.specs.Paper.{paperForm};
 ghost use Rattle.queries.specs.declared.ask.Spoken.the-variants.{Known};
 ghost use Rattle.queries.specs.Text.{lineOf};
-ghost use Rattle.queries.specs.Meaning.{spokenOf, heads as headsOf, tooMany, firstBad, question, fieldsMean, bytesMean};
-ghost use Rattle.queries.specs.Private.{textOf, keptAt, FieldsAre, piecesFrom, periodsOf, costsOf, EveryOther, Answers};
+ghost use Rattle.queries.specs.Meaning.{until, spokenOf, heads as headsOf, tooMany, firstBad, question, fieldsMean, wordIn, piecesMean, bytesMean};
+ghost use Rattle.queries.specs.Private.{textOf, keptAt, FieldsAre, piecesFrom, periodsOf, costsOf, EveryOther, Answers, BegunAt};
 
 const SPACE: u8 = b' ';
 
@@ -186,23 +189,31 @@ fn costs_of(n: usize) -> usize
     if 2 * TOO_MANY < n { TOO_MANY } else { n / 2 }
 }
 
-// What the word asks, with the first three numbers and the tasks.
-fn put_to_shares(word: Word, a: u32, b: u32, c: u32, periods: &[u32], costs: &[u32]) -> Answer
-    ensures { λ r. ⌜ textOf r ≡ lineOf (replyTo (question word a b c (record { periods = now (periods .entry); costs = now (costs .entry) }))) ⌝ }
+// What the word asks in this form, with the first three numbers and the tasks.
+fn put_to_shares(
+    form: Form,
+    word: Word,
+    a: u32,
+    b: u32,
+    c: u32,
+    periods: &[u32],
+    costs: &[u32],
+) -> Answer
+    ensures { λ r. ⌜ textOf r ≡ lineOf (replyTo (question (paperForm form) word a b c (record { periods = now (periods .entry); costs = now (costs .entry) }))) ⌝ }
 {
     match word {
-        Word::Supply => of_ticks(shares::supply(a, b, c)),
+        Word::Supply => of_ticks(shares::supply(form, a, b, c)),
         Word::Demand => of_ticks(shares::demand(periods, costs, a, b)),
-        Word::Check => of_verdict(shares::check(periods, costs, a, b)),
-        Word::Least => of_budget(shares::least(periods, costs, a)),
-        Word::Best => of_interface(shares::best(periods, costs, a)),
+        Word::Check => of_verdict(shares::check(form, periods, costs, a, b)),
+        Word::Least => of_budget(shares::least(form, periods, costs, a)),
+        Word::Best => of_interface(shares::best(form, periods, costs, a)),
     }
 }
 
 // The question of a word and its numbers: the tasks stand behind the word's own, a period and a cost after the other.
-fn asked(word: Word, numbers: [u32; KEPT], count: usize) -> Answer
+fn asked(form: Form, word: Word, numbers: [u32; KEPT], count: usize) -> Answer
     requires { ⌜ headsOf word ≤ count ⌝ }
-    ensures { λ r. ⌜ Answers word numbers count (textOf r) ⌝ }
+    ensures { λ r. ⌜ Answers (paperForm form) word numbers count (textOf r) ⌝ }
 {
     let h = heads(word);
     let n = count - h;
@@ -211,6 +222,7 @@ fn asked(word: Word, numbers: [u32; KEPT], count: usize) -> Answer
     let p = periods_of(n);
     let c = costs_of(n);
     put_to_shares(
+        form,
         word,
         numbers[0],
         numbers[1],
@@ -221,26 +233,52 @@ fn asked(word: Word, numbers: [u32; KEPT], count: usize) -> Answer
 }
 
 // A word that is known, and the fields that begin at `start`.
-fn query(word: Word, line: &[u8], start: usize) -> Answer
+fn query(form: Form, word: Word, line: &[u8], start: usize) -> Answer
     requires { ⌜ start ≤ length (now line) ⌝ }
-    ensures { λ r. ⌜ textOf r ≡ fieldsMean (Known word) (piecesFrom 32 start (now (line .entry))) ⌝ }
+    ensures { λ r. ⌜ textOf r ≡ fieldsMean (paperForm form) (Known word) (piecesFrom 32 start (now (line .entry))) ⌝ }
 {
     let fields = fields_of(word, line, start);
     if fields.bad != 0 {
         return bad_field(fields.bad);
     }
     let numbers = fields.numbers;
-    asked(word, numbers, fields.count)
+    asked(form, word, numbers, fields.count)
 }
 
-// What the bytes of a line ask, without a carriage return at its end.
-pub(crate) fn answer_to(line: &[u8]) -> Answer
-    requires { ⌜ 0 < length (now line) ⌝ }
-    ensures { λ r. ⌜ textOf r ≡ bytesMean (now (line .entry)) ⌝ }
+// `aligned` stands before four words; the others are unknown there.
+fn aligned_word(spoken: Spoken) -> Spoken
+    ensures { λ r. ⌜ r ≡ wordIn aligned spoken ⌝ }
 {
-    let end = find(line, 0, SPACE);
+    match spoken {
+        Spoken::Known(word) => match word {
+            Word::Supply => Spoken::Known(Word::Supply),
+            Word::Demand => Spoken::Unknown,
+            Word::Check => Spoken::Known(Word::Check),
+            Word::Least => Spoken::Known(Word::Least),
+            Word::Best => Spoken::Known(Word::Best),
+        },
+        Spoken::Help => Spoken::Unknown,
+        Spoken::Unknown => Spoken::Unknown,
+    }
+}
+
+fn word_in(form: Form, spoken: Spoken) -> Spoken
+    ensures { λ r. ⌜ r ≡ wordIn (paperForm form) spoken ⌝ }
+{
+    match form {
+        Form::Ordinary => spoken,
+        Form::Aligned => aligned_word(spoken),
+    }
+}
+
+// The word from `from` to `end`, and the fields behind it.
+fn pieces_asked(form: Form, line: &[u8], from: usize, end: usize) -> Answer
+    requires { ⌜ (from ≤ length (now line)) × (end ≡ from + length (until 32 (drop from (now line)))) ⌝ }
+    ensures { λ r. ⌜ textOf r ≡ piecesMean (paperForm form) (piecesFrom 32 from (now (line .entry))) ⌝ }
+{
     let alone = end == line.len();
-    let spoken = word_of(&line[..end]);
+    let known = word_of(&line[from..end]);
+    let spoken = word_in(form, known);
     match spoken {
         Spoken::Unknown => text_alone(Head::BadWord),
         Spoken::Help => if alone {
@@ -251,7 +289,62 @@ pub(crate) fn answer_to(line: &[u8]) -> Answer
         Spoken::Known(word) => if alone {
             bad_field(1)
         } else {
-            query(word, line, end + 1)
+            query(form, word, line, end + 1)
         },
     }
+}
+
+// Where the word begins and ends, and its form; it is lost where nothing stands behind `aligned`.
+struct Begun {
+    lost: bool,
+    form: Form,
+    from: usize,
+    end: usize,
+}
+
+fn first_word(line: &[u8]) -> Begun
+    requires { ⌜ 0 < length (now line) ⌝ }
+    ensures { λ r. ⌜ BegunAt (now (line .entry)) r ⌝ }
+{
+    let end = find(line, 0, SPACE);
+    let aligned = is_same(&line[..end], b"aligned");
+    if !aligned {
+        return Begun {
+            lost: false,
+            form: Form::Ordinary,
+            from: 0,
+            end,
+        };
+    }
+    let alone = end == line.len();
+    if alone {
+        return Begun {
+            lost: true,
+            form: Form::Aligned,
+            from: end,
+            end,
+        };
+    }
+    let from = end + 1;
+    let next = find(line, from, SPACE);
+    Begun {
+        lost: false,
+        form: Form::Aligned,
+        from,
+        end: next,
+    }
+}
+
+// What the bytes of a line ask, without a carriage return at its end. One call asks in both forms: the tables of the
+// search lie in its frame, and a second place of the call would have the frame made anew for each line.
+pub(crate) fn answer_to(line: &[u8]) -> Answer
+    requires { ⌜ 0 < length (now line) ⌝ }
+    ensures { λ r. ⌜ textOf r ≡ bytesMean (now (line .entry)) ⌝ }
+{
+    let word = first_word(line);
+    if word.lost {
+        return text_alone(Head::BadWord);
+    }
+    let form = word.form;
+    pieces_asked(form, line, word.from, word.end)
 }

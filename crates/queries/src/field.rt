@@ -3,7 +3,7 @@ ghost use mathlib.Core.Path.{_≡_};
 ghost use mathlib.Core.Bool.{true};
 ghost use Prim.Native.Nat.{_+_, _≤_};
 ghost use lib.ListN.{length, drop};
-ghost use Rattle.queries.specs.Meaning.{until, same, isDigit};
+ghost use Rattle.queries.specs.Meaning.{until, isDigit};
 ghost use Rattle.queries.specs.Private.{withDigit, numberRead};
 
 // The place of the first such byte at or behind `from`; the end where there is none.
@@ -12,23 +12,6 @@ pub(crate) fn find(s: &[u8], from: usize, byte: u8) -> usize
     ensures { λ r. ⌜ r ≡ from + length (until byte (drop from (now (s .entry)))) ⌝ }
 {
     bytes::scan::find(s, from, s.len(), byte)
-}
-
-// Whether the bytes are those of a word.
-pub(crate) fn is_same(s: &[u8], word: &[u8]) -> bool
-    ensures { λ r. ⌜ r ≡ same (now (s .entry)) (now (word .entry)) ⌝ }
-{
-    if s.len() != word.len() {
-        return false;
-    }
-    let mut k = 0;
-    while k < s.len() {
-        if s[k] != word[k] {
-            return false;
-        }
-        k += 1;
-    }
-    true
 }
 
 pub(crate) enum Number {

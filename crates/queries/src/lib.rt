@@ -8,4 +8,5 @@ mod write;
 pub use line::LONGEST_LINE;
 pub use line::answer;
 pub use line::bad_line;
+pub use line::trimmed_size;
 pub use write::LONGEST_ANSWER;

@@ -17,7 +17,7 @@ pub const LONGEST_LINE: usize = 65535;
 const RETURN: u8 = b'\r';
 
 // How many bytes a line has without a carriage return at its end.
-fn trimmed_size(line: &[u8]) -> usize
+pub fn trimmed_size(line: &[u8]) -> usize
     ensures { λ r. ⌜ (r ≤ length (now (line .entry))) × (r ≡ length (trimmed (now (line .entry)))) ⌝ }
 {
     let n = line.len();

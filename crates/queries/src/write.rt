@@ -11,11 +11,11 @@ ghost use Rattle.text.specs.Text.{decimal, fields, Put};
 ghost use Rattle.queries.specs.Text.{longest};
 ghost use Rattle.queries.specs.Private.{headText, textOf};
 
-// No line of an answer has more bytes: a text of at most 119, two numbers behind a space each, and a newline.
-pub const LONGEST_ANSWER: usize = 162;
+// No line of an answer has more bytes: a text of at most 216, two numbers behind a space each, and a newline.
+pub const LONGEST_ANSWER: usize = 259;
 
 fn put_head(out: &mut [u8], at: usize, head: Head) -> usize
-    requires { ⌜ at + 119 ≤ length (now out) ⌝ }
+    requires { ⌜ at + 216 ≤ length (now out) ⌝ }
     ensures { λ r. ⌜ Put (now (out .entry)) at (headText head) (now (out .exit)) r ⌝ }
 {
     match head {
@@ -27,7 +27,7 @@ fn put_head(out: &mut [u8], at: usize, head: Head) -> usize
         Head::Help => put_text(
             out,
             at,
-            b"supply P B t | demand i t TASKS | check P B TASKS | least P TASKS | best PMAX TASKS (TASKS: period cost period cost ..)",
+            b"supply P B t | demand i t TASKS | check P B TASKS | least P TASKS | best PMAX TASKS (TASKS: period cost period cost ..) | aligned before supply, check, least or best: for tasks released at starts of a resource period",
         ),
     }
 }

@@ -1,5 +1,5 @@
--- The best share from period to period: searching the next period up to its cap, and replacing where that finds a budget, is the better
--- of two. Assumes nothing.
+-- The best share from period to period, in either form: searching the next period up to its cap, and replacing where that finds a budget,
+-- is the better of two, and a period that the form does not take changes nothing. Assumes nothing.
 use Prim.Native.Nat.{ℕ, zero, suc, _+_, _*_, _-_, _/_, _≤_, _<_}
 use mathlib.Core.Path.{_≡_, refl, ap, sym, _∙_}
 use mathlib.Core.Bool.{Bool, true, false, cond}
@@ -10,6 +10,7 @@ use native.Mathlib.Nat.{le-div-iff-mul-le, mul-le-mul-right, div-le-of-le-mul}
 use lib.Dec.{leb, eqb}
 use borrow.Author.Tests.{le-leb, lt-leb, eq-eqb, ne-eqb, eqb-true, eqb-false}
 use Rattle.model.specs.Search.{first}
+use Rattle.model.specs.Form.{Form, takes}
 use Rattle.model.specs.Share.{Share, passes, leastOf, better, bestOf}
 use Rattle.model.proofs.Tests.{below-or-from}
 use Rattle.model.proofs.Places.{Smallest, first-smallest, first-at, first-none}
@@ -102,25 +103,38 @@ module _ (f : ℕ → Bool) (s : Share) (P : ℕ) (o : Offered s) where
                   let pos : 0 < s .period = omega (arith, o .budget-most) in
                   absurd (omega (arith, le-div-iff-mul-le {x = r} {y = s .budget * P} pos .0 (omega (arith, cap-some s P m))))
 
--- the best up to p, from the best up to p - 1
-pub best-next : (ps es : List ℕ) (s : Share) (p : ℕ) → 1 ≤ p → Offered s → s ≡ bestOf ps es (p - 1)
-    → replacedBy s p (first (passes p ps es) (capOf s p)) ≡ bestOf ps es (p + 1 - 1)
+-- the best up to p, from the best up to p - 1: of a period that the form takes, and of one that it does not
+pub best-next : (form : Form) (ps es : List ℕ) (s : Share) (p : ℕ) → 1 ≤ p → Offered s → takes form p ps ≡ true
+    → s ≡ bestOf form ps es (p - 1) → replacedBy s p (first (passes form p ps es) (capOf s p)) ≡ bestOf form ps es (p + 1 - 1)
 unfolding bestOf leastOf
-best-next ps es s zero pos o e = absurd (omega arith)
-best-next ps es s (suc n) pos o e =
+best-next form ps es s zero pos o taken e = absurd (omega arith)
+best-next form ps es s (suc n) pos o taken e =
     let a : suc n - 1 ≡ n = omega arith in
     let b : suc n + 1 - 1 ≡ suc n = omega arith in
+    let f : ℕ → Bool = passes form (suc n) ps es in
     rw b
-    (next (passes (suc n) ps es) s (suc n) o (first (passes (suc n) ps es) (suc n)) (first-smallest (passes (suc n) ps es) (suc n))
-    ∙ ap (λ (t : Share). better t (record { period = suc n; budget = first (passes (suc n) ps es) (suc n) }))
-    (e ∙ ap (λ (k : ℕ). bestOf ps es k) a))
+    (rw taken
+    (next f s (suc n) o (first f (suc n)) (first-smallest f (suc n))
+    ∙ ap (λ (t : Share). better t (record { period = suc n; budget = first f (suc n) }))
+    (e ∙ ap (λ (k : ℕ). bestOf form ps es k) a)))
+
+pub best-skips : (form : Form) (ps es : List ℕ) (p : ℕ) → 1 ≤ p → takes form p ps ≡ false
+    → bestOf form ps es (p - 1) ≡ bestOf form ps es (p + 1 - 1)
+unfolding bestOf
+best-skips form ps es zero pos skipped = absurd (omega arith)
+best-skips form ps es (suc n) pos skipped =
+    let a : suc n - 1 ≡ n = omega arith in
+    let b : suc n + 1 - 1 ≡ suc n = omega arith in
+    rw (a, b) (rw skipped)
 
 -- it is a share in range, or none
-best-fits : (ps es : List ℕ) (n : ℕ) → (bestOf ps es n .budget ≤ bestOf ps es n .period) × (bestOf ps es n .period ≤ n)
+best-fits : (form : Form) (ps es : List ℕ) (n : ℕ)
+    → (bestOf form ps es n .budget ≤ bestOf form ps es n .period) × (bestOf form ps es n .period ≤ n)
 unfolding bestOf leastOf better
-best-fits ps es zero = (omega arith, omega arith)
-best-fits ps es (suc n) =
-    go (bestOf ps es n) (best-fits ps es n) (first (passes (suc n) ps es) (suc n)) (first-smallest (passes (suc n) ps es) (suc n) .most)
+best-fits form ps es zero = (omega arith, omega arith)
+best-fits form ps es (suc n) =
+    skip (takes form (suc n) ps) (bestOf form ps es n) (best-fits form ps es n) (first (passes form (suc n) ps es) (suc n))
+    (first-smallest (passes form (suc n) ps es) (suc n) .most)
   where
     Fits : Share → Type 0
     Fits s = (s .budget ≤ s .period) × (s .period ≤ suc n)
@@ -136,5 +150,11 @@ best-fits ps es (suc n) =
         by false false true = (omega arith, omega arith)
         by false false false = (omega (arith, i), omega (arith, i))
 
-pub best-offered : (ps es : List ℕ) (n : ℕ) → n ≤ 2000 → Offered (bestOf ps es n)
-best-offered ps es n h = record { budget-most = best-fits ps es n .0; period-most = omega (arith, best-fits ps es n .1) }
+    skip : (taken : Bool) (s : Share) → (s .budget ≤ s .period) × (s .period ≤ n) → (r : ℕ) → r ≤ suc n
+        → Fits (cond taken (better s (record { period = suc n; budget = r })) s)
+    skip true s i r h = go s i r h
+    skip false s i r h = (omega (arith, i), omega (arith, i))
+
+pub best-offered : (form : Form) (ps es : List ℕ) (n : ℕ) → n ≤ 2000 → Offered (bestOf form ps es n)
+best-offered form ps es n h =
+    record { budget-most = best-fits form ps es n .0; period-most = omega (arith, best-fits form ps es n .1) }

@@ -4,6 +4,7 @@ pub mod Bounds
 pub mod SupplyCurve
 pub mod DemandCurve
 pub mod RowLaws
+pub mod Harmonic
 pub mod TableLaws
 pub mod LeapLaws
 pub mod Walk

@@ -2,7 +2,7 @@
 -- Assumes nothing.
 use Prim.Native.Nat.{ℕ, suc, _+_, _-_, _*_, _≤_, _<_}
 use mathlib.Core.Path.{_≡_, sym, _∙_}
-use mathlib.Core.Bool.{Bool, true, false, not}
+use mathlib.Core.Bool.{Bool, true, false, not, cond}
 use mathlib.Core.List.{List}
 use mathlib.Core.Logic.{_⊎_, inl, inr}
 use native.Mathlib.Omega.{arith}
@@ -11,11 +11,12 @@ use lib.Dec.{ltb, eqb}
 use borrow.Author.Tests.{lt-ltb, le-leb, lt-leb, ltb-false, not-false}
 use lib.ListN.{length, getD}
 use Rattle.model.specs.Search.{first}
+use Rattle.model.specs.Form.{Form, suits, takes}
 use Rattle.model.specs.Rows.{inRange, miscounted, outOfRange, falls}
 use Rattle.model.proofs.Places.{NoneOf, first-at, first-none, first-smallest}
 use Rattle.model.proofs.Replies.{in-range}
 use Rattle.model.proofs.TaskRows.{counts, NoTasksRow}
-use Rattle.shares.specs.Private.{Tasks, longest, Filled, Leaps, Ready}
+use Rattle.shares.specs.Private.{Tasks, longest, Filled, Leaps, Ready, shareRow}
 
 -- a loop that looks at place 1, 2, .. and leaves at the first that has the test: what it knows after i places
 pub none-yet : (f : ℕ → Bool) → NoneOf f 0
@@ -89,6 +90,18 @@ pub tasks-fit : (ps es : List ℕ) → NoTasksRow ps es → Tasks ps es
 tasks-fit ps es ok =
     as-tasks ps es (ok .counted) (first-smallest (outOfRange ps es) (length ps) .none (ok .none-out))
     (first-smallest (falls ps) (length ps) .none (ok .no-fall))
+
+-- rows 33 and 36, as they are tested
+module _ (form : Form) (fits : Bool) (P : ℕ) (ps : List ℕ) where
+  pub share-33 : fits ≡ false → 33 ≡ shareRow form fits P ps
+  share-33 e = rw e
+
+  pub share-36 : fits ≡ true → suits form ps ≡ false → 36 ≡ shareRow form fits P ps
+  share-36 e f = rw (e, f)
+
+  pub share-taken : (taken : Bool) → fits ≡ true → suits form ps ≡ true → takes form P ps ≡ taken
+      → cond taken 0 36 ≡ shareRow form fits P ps
+  share-taken taken e f g = rw (e, f, g)
 
 -- what check, least and best hand to the search
 pub ready : (ps es demands leaps : List ℕ) (P : ℕ) → NoTasksRow ps es → (1 ≤ P) × (P ≤ 2000)

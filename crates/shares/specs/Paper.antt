@@ -1,6 +1,7 @@
--- For each answer of this crate the paper's number and values in each of its cases.
+-- For each answer of this crate the paper's number and values in each of its cases, and the paper's form for each of its forms.
 -- Assumes nothing.
 use mathlib.Core.List.{[], _∷_}
+use Rattle.model.specs.Form.{Form as PaperForm, ordinary, aligned}
 use Rattle.model.specs.Share.{Share as PaperShare}
 use Rattle.model.specs.Reply.{Reply, gives, refuses}
 use Rattle.shares.specs.declared.answers.Refusal.{Refusal}
@@ -13,6 +14,13 @@ use Rattle.shares.specs.declared.answers.Budget.{Budget}
 use Rattle.shares.specs.declared.answers.Budget.the-variants.{Least, No as NoBudget}
 use Rattle.shares.specs.declared.answers.Interface.{Interface}
 use Rattle.shares.specs.declared.answers.Interface.the-variants.{Best, No as NoInterface}
+use Rattle.shares.specs.declared.form.Form.{Form}
+use Rattle.shares.specs.declared.form.Form.the-variants.{Ordinary, Aligned}
+
+-- the form that is asked for
+abbrev pub paperForm : Form → PaperForm
+paperForm Ordinary = ordinary
+paperForm Aligned = aligned
 
 abbrev pub paperRefusal : Refusal → Reply
 paperRefusal r = refuses (r .number) (r .detail)

@@ -1,11 +1,12 @@
--- What private functions of this crate promise each other: lists that no row refuses, and the table of demands that the search reads.
--- Nothing public cites it. Assumes nothing.
+-- What private functions of this crate promise each other: lists that no row refuses, the gaps of a form, rows 33 and 36, and the tables
+-- that the search reads. Nothing public cites it. Assumes nothing.
 use Prim.Native.Nat.{ℕ, suc, _+_, _-_, _*_, _/_, _%_, _≤_, _<_, max}
 use mathlib.Core.Path.{_≡_}
-use mathlib.Core.Bool.{false, cond}
+use mathlib.Core.Bool.{Bool, false, cond, _&&_}
 use lib.Dec.{ltb, eqb}
 use mathlib.Core.List.{List}
 use lib.ListN.{length, getD}
+use Rattle.model.specs.Form.{Form, ordinary, aligned, suits, takes}
 use Rattle.model.specs.Demand.{demandOf}
 use Rattle.model.specs.Share.{Share, passes}
 
@@ -19,6 +20,22 @@ pub record Tasks (periods costs : List ℕ) : Type 0 where
   pub cost-least : (i : ℕ) → i < length periods → 1 ≤ getD costs i 0
   pub cost-most : (i : ℕ) → i < length periods → getD costs i 0 ≤ getD periods i 0
   pub rising : (i : ℕ) → suc i < length periods → getD periods i 0 ≤ getD periods (suc i) 0
+
+-- what is needed of them to see whether they are aligned
+pub record Rising (periods : List ℕ) : Type 0 where
+  pub some-task : 1 ≤ length periods
+  pub few : length periods ≤ 16
+  pub least : (i : ℕ) → i < length periods → 1 ≤ getD periods i 0
+  pub rising : (i : ℕ) → suc i < length periods → getD periods i 0 ≤ getD periods (suc i) 0
+
+-- how many gaps the first tick waits for at the least
+abbrev pub gapsOf : Form → ℕ
+gapsOf ordinary = 2
+gapsOf aligned = 1
+
+-- the first of rows 33 and 36 that applies; 0 where neither does
+abbrev pub shareRow : Form → Bool → ℕ → List ℕ → ℕ
+shareRow form fits P periods = cond fits (cond (suits form periods && takes form P periods) 0 36) 33
 
 -- the longest length that a task looks at: the last task's period
 abbrev pub longest : List ℕ → ℕ
@@ -64,8 +81,8 @@ pub record Ready (periods costs demands leaps : List ℕ) (P : ℕ) : Type 0 whe
   pub period-most : P ≤ 2000
 
 -- no budget up to b passes
-abbrev pub NoneUpTo : ℕ → List ℕ → List ℕ → ℕ → Type 0
-NoneUpTo P periods costs b = (x : ℕ) → 1 ≤ x → x ≤ b → passes P periods costs x ≡ false
+abbrev pub NoneUpTo : Form → ℕ → List ℕ → List ℕ → ℕ → Type 0
+NoneUpTo form P periods costs b = (x : ℕ) → 1 ≤ x → x ≤ b → passes form P periods costs x ≡ false
 
 -- a share that was offered, or none: its budget is at most its period, and that in range
 pub record Offered (s : Share) : Type 0 where

@@ -1,11 +1,13 @@
--- Any two replies that the promises of `put_field`, `put_end` and `put_text` allow are equal, the bytes written included
--- (`OneReplyAndBytes` of crate promise). Assumes nothing.
+-- Any two replies that the promises of the public functions allow are equal, the bytes written included (`OneReply` and
+-- `OneReplyAndBytes` of crate promise). Assumes nothing.
 use Prim.Native.Nat.{ℕ}
 use mathlib.Core.List.{List}
 use mathlib.Core.Path.{_≡_, sym, _∙_}
 use denote.Ref.{now}
-use Rattle.promise.specs.OneReply.{OneReplyAndBytes}
+use Rattle.promise.specs.OneReply.{OneReply, OneReplyAndBytes}
 use Rattle.text.specs.Text.{Put}
+use Rattle.text.proofs.is_same.Kinds as is-same
+use Rattle.text.proofs.is_same.Reads as is-same-promise
 use Rattle.text.proofs.put_field.Kinds as put-field
 use Rattle.text.proofs.put_field.Reads as put-field-promise
 use Rattle.text.proofs.put_end.Kinds as put-end
@@ -25,3 +27,6 @@ put-end-one κs args a b x y p q = one-put p q
 
 pub put-text-one : OneReplyAndBytes 2 put-text.ps put-text.r put-text-promise.Post (λ κs x. now (x .0))
 put-text-one κs args a b x y p q = one-put p q
+
+pub is-same-one : OneReply 2 is-same.ps is-same.r is-same-promise.Post
+is-same-one κs args a b x y p q = p ∙ sym q

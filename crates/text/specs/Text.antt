@@ -1,9 +1,9 @@
 -- The pieces that the lines of both programs are made of: numbers in decimal, fields, and bytes put at a place. Assumes nothing.
 use Prim.Native.Nat.{ℕ, zero, suc, _+_, _-_, _*_, _/_, _%_}
-use mathlib.Core.Bool.{cond}
+use mathlib.Core.Bool.{Bool, true, false, cond, _&&_}
 use mathlib.Core.List.{List, [], _∷_, _++_}
 use mathlib.Core.Path.{_≡_}
-use lib.Dec.{ltb}
+use lib.Dec.{ltb, eqb}
 use lib.ListN.{length, drop}
 use lib.Seq.{sets}
 
@@ -23,6 +23,13 @@ numberFrom n (b ∷ bs) = numberFrom (n * 10 + (b - 48)) bs
 
 abbrev pub number : List ℕ → ℕ
 number digits = numberFrom 0 digits
+
+-- the bytes are those of a word
+abbrev pub same : List ℕ → List ℕ → Bool
+same [] [] = true
+same [] (y ∷ ys) = false
+same (x ∷ xs) [] = false
+same (x ∷ xs) (y ∷ ys) = eqb x y && same xs ys
 
 -- "ok", "no"
 abbrev pub ok : List ℕ

@@ -1,8 +1,9 @@
-// What the lines of both programs are made of: a text, a number in decimal behind a space, and the newline at the end.
+// What the lines of the programs are made of: a text, a number in decimal behind a space, and the newline at the end; and whether
+// bytes are those of a word.
 ghost use Prim.Native.Nat.{_+_, _≤_, _<_};
 ghost use mathlib.Core.Path.{_≡_};
 ghost use lib.ListN.{length};
-ghost use Rattle.text.specs.Text.{decimal, fieldIn, endIn, textIn, Put};
+ghost use Rattle.text.specs.Text.{decimal, same, fieldIn, endIn, textIn, Put};
 
 // A space, and the digits: no number has more than 20.
 const LONGEST_FIELD: usize = 21;
@@ -101,4 +102,21 @@ pub fn put_text(out: &mut [u8], at: usize, text: &[u8]) -> usize
         k += 1;
     }
     at + k
+}
+
+// Whether the bytes are those of a word.
+pub fn is_same(s: &[u8], word: &[u8]) -> bool
+    ensures { λ r. ⌜ r ≡ same (now (s .entry)) (now (word .entry)) ⌝ }
+{
+    if s.len() != word.len() {
+        return false;
+    }
+    let mut k = 0;
+    while k < s.len() {
+        if s[k] != word[k] {
+            return false;
+        }
+        k += 1;
+    }
+    true
 }

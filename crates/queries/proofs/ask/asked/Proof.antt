@@ -2,6 +2,7 @@
 use mathlib.Core.Path.{sym}
 use native.Mathlib.Omega.{arith}
 use lib.Seq.{length-take-le}
+use Rattle.shares.specs.Paper.{paperForm}
 use Rattle.queries.proofs.Replies.{asked-reply}
 use borrow.Author.Needs.{needs}
 use Rattle.queries.proofs.ask.asked.Statement.{statement}
@@ -56,7 +57,7 @@ returns : tie.Need-returns
 returns c =
     let a = c .before .before .before .before .before .before .before .before .before .before .args in
     let h = c .before .before .before .before .before .before .before .before .before .heads .ensures in
-    asked-reply (a .word) (a .t2) (a .count) (c .before .before .before .before .before .before .before .before .before .heads .result) (c .before .before .before .before .periods-of .result) (c .before .before .before .costs-of .result) (c .before .before .before .before .before .before .before .every-other .result)
+    asked-reply (paperForm (a .form)) (a .word) (a .t3) (a .count) (c .before .before .before .before .before .before .before .before .before .heads .result) (c .before .before .before .before .periods-of .result) (c .before .before .before .costs-of .result) (c .before .before .before .before .before .before .before .every-other .result)
     (c .before .before .before .before .before .every-other2 .result) _ (h .0) (c .before .before .before .before .periods-of .ensures .0) (c .before .before .before .costs-of .ensures .0) (omega arith) (omega arith)
     (c .before .before .before .before .before .before .before .every-other .ensures) (c .before .before .before .before .before .every-other2 .ensures) (c .before .before .before .before .before .before .before .before .before .before .pre) (c .put-to-shares .ensures)
 

@@ -1,6 +1,7 @@
 -- What a word asks is asked of `shares`, and its answer is the paper's. Assumes nothing.
 use mathlib.Core.Path.{ap, sym, _∙_}
 use Rattle.model.specs.Asked.{Work, replyTo}
+use Rattle.shares.specs.Paper.{paperForm}
 use Rattle.queries.specs.Text.{lineOf}
 use Rattle.queries.specs.declared.ask.Word.{Word}
 use Rattle.queries.specs.Meaning.{question}
@@ -57,31 +58,31 @@ returns : tie.Need-returns
 returns c =
     let p = c .before .before .before .before .before .before .args in
     c .of-ticks .ensures ∙ ap lineOf (c .before .supply .ensures)
-    ∙ sym (ap (λ (w : Word). lineOf (replyTo (question w (p .a) (p .b) (p .c) (record { periods = p .periods .now; costs = p .costs .now })))) (c .before .before .enum-told .given .1))
+    ∙ sym (ap (λ (w : Word). lineOf (replyTo (question (paperForm (p .form)) w (p .a) (p .b) (p .c) (record { periods = p .periods .now; costs = p .costs .now })))) (c .before .before .enum-told .given .1))
 
 returns-2 : tie.Need-returns-2
 returns-2 c =
     let p = c .before .before .before .before .before .before .args in
     c .of-ticks2 .ensures ∙ ap lineOf (c .before .demand .ensures)
-    ∙ sym (ap (λ (w : Word). lineOf (replyTo (question w (p .a) (p .b) (p .c) (record { periods = p .periods .now; costs = p .costs .now })))) (c .before .before .enum-told2 .given .1))
+    ∙ sym (ap (λ (w : Word). lineOf (replyTo (question (paperForm (p .form)) w (p .a) (p .b) (p .c) (record { periods = p .periods .now; costs = p .costs .now })))) (c .before .before .enum-told2 .given .1))
 
 returns-3 : tie.Need-returns-3
 returns-3 c =
     let p = c .before .before .before .before .before .before .args in
     c .of-verdict .ensures ∙ ap lineOf (c .before .check .ensures)
-    ∙ sym (ap (λ (w : Word). lineOf (replyTo (question w (p .a) (p .b) (p .c) (record { periods = p .periods .now; costs = p .costs .now })))) (c .before .before .enum-told3 .given .1))
+    ∙ sym (ap (λ (w : Word). lineOf (replyTo (question (paperForm (p .form)) w (p .a) (p .b) (p .c) (record { periods = p .periods .now; costs = p .costs .now })))) (c .before .before .enum-told3 .given .1))
 
 returns-4 : tie.Need-returns-4
 returns-4 c =
     let p = c .before .before .before .before .before .before .args in
     c .of-budget .ensures ∙ ap lineOf (c .before .least .ensures)
-    ∙ sym (ap (λ (w : Word). lineOf (replyTo (question w (p .a) (p .b) (p .c) (record { periods = p .periods .now; costs = p .costs .now })))) (c .before .before .enum-told4 .given .1))
+    ∙ sym (ap (λ (w : Word). lineOf (replyTo (question (paperForm (p .form)) w (p .a) (p .b) (p .c) (record { periods = p .periods .now; costs = p .costs .now })))) (c .before .before .enum-told4 .given .1))
 
 returns-5 : tie.Need-returns-5
 returns-5 c =
     let p = c .before .before .before .before .before .before .args in
     c .of-interface .ensures ∙ ap lineOf (c .before .best .ensures)
-    ∙ sym (ap (λ (w : Word). lineOf (replyTo (question w (p .a) (p .b) (p .c) (record { periods = p .periods .now; costs = p .costs .now })))) (c .before .before .enum-told5 .given .1))
+    ∙ sym (ap (λ (w : Word). lineOf (replyTo (question (paperForm (p .form)) w (p .a) (p .b) (p .c) (record { periods = p .periods .now; costs = p .costs .now })))) (c .before .before .enum-told5 .given .1))
 
 pub put-to-shares-spec : {M : Type 1} → statement M
 put-to-shares-spec =

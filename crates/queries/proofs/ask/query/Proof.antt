@@ -1,6 +1,7 @@
 -- `query` answers the first bad field, or the question. Assumes nothing.
 use mathlib.Core.Path.{_≡_, sym, _∙_}
 use native.Mathlib.Omega.{arith}
+use Rattle.shares.specs.Paper.{paperForm}
 use Rattle.queries.proofs.Meaning.{bad-means, good-means, heads-there}
 use Rattle.queries.specs.Private.{piecesFrom}
 use borrow.Author.Needs.{needs}
@@ -16,7 +17,7 @@ bad-field-requires c κs = search needs
 returns : tie.Need-returns
 returns c =
     let f = c .before .before .before .fields-of .ensures in
-    c .bad-field .ensures ∙ bad-means (c .before .before .before .before .before .args .word) _ (c .before .before .before .fields-of .result .bad) (f .bad-is) (c .before .if1 .taken)
+    c .bad-field .ensures ∙ bad-means (paperForm (c .before .before .before .before .before .args .form)) (c .before .before .before .before .before .args .word) _ (c .before .before .before .fields-of .result .bad) (f .bad-is) (c .before .if1 .taken)
 
 asked-requires : tie.Need-asked-requires
 asked-requires c κs =
@@ -28,7 +29,7 @@ returns-2 : tie.Need-returns-2
 returns-2 c =
     let f = c .before .before .before .before .fields-of .ensures in
     let none = c .before .before .if1 .left in
-    good-means (c .before .before .before .before .before .before .args .word) _ _ (sym (f .bad-is) ∙ none) (c .asked .ensures (piecesFrom 32 (c .before .before .before .before .before .before .args .start) (c .before .before .before .before .before .before .args .line .now)) (f .numbers-are none) (f .count-is none))
+    good-means (paperForm (c .before .before .before .before .before .before .args .form)) (c .before .before .before .before .before .before .args .word) _ _ (sym (f .bad-is) ∙ none) (c .asked .ensures (piecesFrom 32 (c .before .before .before .before .before .before .args .start) (c .before .before .before .before .before .before .args .line .now)) (f .numbers-are none) (f .count-is none))
 
 pub query-spec : {M : Type 1} → statement M
 query-spec =

@@ -7,7 +7,8 @@ use native.Mathlib.Omega.{arith}
 use lib.ListN.{length, drop}
 use Rattle.text.specs.Text.{numberFrom}
 use Rattle.queries.specs.Meaning.{allDigits}
-use Rattle.queries.proofs.Numbers.{none-left, digit-next, digits-next, no-digit, read-empty, read-none, read-number}
+use Rattle.text.proofs.Same.{none-left}
+use Rattle.queries.proofs.Numbers.{digit-next, digits-next, no-digit, read-empty, read-none, read-number}
 use borrow.Author.Needs.{needs}
 use Rattle.queries.proofs.field.number_of.Statement.{statement}
 use Rattle.queries.proofs.field.number_of.Tie as tie

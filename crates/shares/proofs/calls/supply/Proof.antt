@@ -3,6 +3,7 @@ use borrow.Author.Needs.{needs}
 use Rattle.model.specs.Reply.{gives}
 use Rattle.model.proofs.Replies.{in-range}
 use mathlib.Core.List.{[], _∷_}
+use Rattle.shares.specs.Paper.{paperForm}
 use Rattle.shares.proofs.ReplyLaws.{refused, supply-33, supply-35, supply-gives}
 use borrow.Author.Tests.{not-true, not-false}
 use mathlib.Core.Path.{sym, _∙_, ap}
@@ -20,7 +21,7 @@ returns : tie.Need-returns
 returns c =
     let a = c .before .before .before .args in
     let no = sym (c .before .before .is-in-range .ensures) ∙ not-true _ (c .before .if1 .taken) in
-    refused (c .refusal .result) 33 (c .refusal .ensures) ∙ sym (supply-33 (a .p) (a .b) (a .t) no)
+    refused (c .refusal .result) 33 (c .refusal .ensures) ∙ sym (supply-33 (paperForm (a .form)) (a .p) (a .b) (a .t) no)
 
 refusal-requires-2 : tie.Need-refusal-requires-2
 refusal-requires-2 c κs = search needs
@@ -29,7 +30,8 @@ returns-2 : tie.Need-returns-2
 returns-2 c =
     let a = c .before .before .before .before .args in
     let yes = sym (c .before .before .before .is-in-range .ensures) ∙ not-false _ (c .before .before .if1 .left) in
-    refused (c .refusal2 .result) 35 (c .refusal2 .ensures) ∙ sym (supply-35 (a .p) (a .b) (a .t) yes (c .before .if2 .taken))
+    refused (c .refusal2 .result) 35 (c .refusal2 .ensures)
+    ∙ sym (supply-35 (paperForm (a .form)) (a .p) (a .b) (a .t) yes (c .before .if2 .taken))
 
 supplied-requires : tie.Need-supplied-requires
 supplied-requires c κs =
@@ -41,7 +43,8 @@ returns-3 : tie.Need-returns-3
 returns-3 c =
     let a = c .before .before .before .before .args in
     let yes = sym (c .before .before .before .is-in-range .ensures) ∙ not-false _ (c .before .before .if1 .left) in
-    ap (λ (n : ℕ). gives (n ∷ [])) (c .supplied .ensures) ∙ sym (supply-gives (a .p) (a .b) (a .t) yes (c .before .if2 .left))
+    ap (λ (n : ℕ). gives (n ∷ [])) (c .supplied .ensures)
+    ∙ sym (supply-gives (paperForm (a .form)) (a .p) (a .b) (a .t) yes (c .before .if2 .left))
 
 pub supply-spec : {M : Type 1} → statement M
 supply-spec =

@@ -21,10 +21,11 @@ add-result : tie.Need-add-result
 add-result c = record { fits = omega (arith, div-le-self (c .args .d - 1) (c .args .b)) }
 
 mul-result : tie.Need-mul-result
-mul-result c = record { fits = omega (arith, reach-most (c .args .p) (c .args .b) (c .args .d) (c .pre .2) (c .pre .4)) }
+mul-result c =
+    let a = c .args in record { fits = omega (arith, reach-most (a .gaps) (a .p) (a .b) (a .d) (c .pre .0) (c .pre .3) (c .pre .5)) }
 
 returns : tie.Need-returns
-returns c = (refl, reach-most (c .args .p) (c .args .b) (c .args .d) (c .pre .2) (c .pre .4))
+returns c = let a = c .args in (refl, reach-most (a .gaps) (a .p) (a .b) (a .d) (c .pre .0) (c .pre .3) (c .pre .5))
 
 pub waited-spec : {M : Type 1} → statement M
 waited-spec = tie.close (tie.spec sub-result sub-result-2 div-result add-result mul-result returns)

@@ -1,6 +1,7 @@
 -- `failing_below` gives a budget below `cap` that fails with all below it, or 0. The invariant keeps the budget above 0 and at most `cap`.
 -- Assumes nothing.
 use borrow.Author.Needs.{needs}
+use Rattle.shares.specs.Paper.{paperForm}
 use Rattle.shares.proofs.Budgets.{fails-below, one-fails}
 use native.Mathlib.Omega.{arith}
 use mathlib.Core.Path.{sym, _∙_}
@@ -9,10 +10,10 @@ use Rattle.shares.proofs.search.failing_below.Statement.{statement}
 use Rattle.shares.proofs.search.failing_below.Tie as tie
 
 abbrev Inv-loop : tie.InvT-loop
-Inv-loop periods costs demands leaps p cap b₀ step₀ b step = (1 ≤ b) × (b ≤ cap) × (1 ≤ step)
+Inv-loop form periods costs demands leaps p cap b₀ step₀ b step = (1 ≤ b) × (b ≤ cap) × (1 ≤ step)
 
 abbrev μ-loop : tie.MeasureT-loop
-μ-loop periods costs demands leaps p cap b₀ step₀ b step = b
+μ-loop form periods costs demands leaps p cap b₀ step₀ b step = b
 
 -- the head of the loop, and a budget tried in it
 abbrev Head : Type 0
@@ -44,8 +45,9 @@ returns c =
     let tasks = s .pre .0 .tasks in
     let b = l .b - l .step in (
       omega (arith, l .inv),
-      fails-below (a .p) (a .periods .now) (a .costs .now) tasks b (omega (arith, l .inv, s .pre .1))
-          (one-fails (a .p) (a .periods .now) (a .costs .now) tasks b (omega arith) (sym (c .if1 .taken) ∙ f .first-budget .ensures)),
+      fails-below (paperForm (a .form)) (a .p) (a .periods .now) (a .costs .now) tasks b (omega (arith, l .inv, s .pre .1))
+          (one-fails (paperForm (a .form)) (a .p) (a .periods .now) (a .costs .now) tasks b (omega arith)
+          (sym (c .if1 .taken) ∙ f .first-budget .ensures)),
     )
 
 mul-step : tie.Need-mul-step Inv-loop μ-loop

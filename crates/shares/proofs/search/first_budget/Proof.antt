@@ -1,15 +1,22 @@
 -- `first_budget` finds the first budget that passes. The invariant of all three loops is the walk of proofs/Walk.antt; the inner ones add
--- that the budget, and within the lengths the task, is the one that the loop began with. Assumes nothing.
+-- that the budget, and within the lengths the task, is the one that the loop began with. The loops know the form by its gaps. Assumes
+-- nothing.
 use borrow.Author.Needs.{needs}
+use Rattle.model.specs.Search.{first}
+use Rattle.model.specs.Form.{Form}
 use Rattle.model.specs.Demand.{demandOf}
-use Rattle.shares.specs.Private.{Ready, longest, leapOf}
+use Rattle.model.specs.Share.{passes}
+use Rattle.shares.specs.Paper.{paperForm}
+use Rattle.shares.specs.Private.{Ready, gapsOf, longest, leapOf}
 use Rattle.shares.proofs.Walk.{Walk, NoneBetween, walk-start, walk-met, walk-jump, walk-fails, walk-none, walk-found}
 use Rattle.shares.proofs.LeapLaws.{leap-none, leap-least}
 use Rattle.shares.proofs.TableLaws.{cell-at}
-use Rattle.shares.proofs.SupplyCurve.{waitedOf}
+use Rattle.shares.proofs.SupplyCurve.{waitedOf, waited-with, gaps-few, formOf, form-of}
 use Rattle.shares.proofs.DemandCurve.{demand-some, demand-most, under-longest, longest-most}
+use lib.Dec.{leb}
 use lib.ListN.{length, getD}
 use native.Mathlib.Omega.{arith}
+use mathlib.Core.Bool.{_&&_}
 use mathlib.Core.List.{List}
 use mathlib.Core.Path.{_≡_, refl, sym, _∙_, ap, subst}
 use Prim.Native.Nat.{ℕ, suc, _+_, _*_, _-_, _≤_, _<_}
@@ -17,23 +24,24 @@ use Rattle.shares.proofs.search.first_budget.Statement.{statement}
 use Rattle.shares.proofs.search.first_budget.Tie as tie
 
 abbrev Inv-lengths : tie.InvT-lengths
-Inv-lengths periods costs demands leaps p from to n b₀ i₀ t₀ b i t =
-    Walk periods costs p from b i t × ((b ≤ to) × ((i < length periods) × ((b ≡ b₀) × (i ≡ i₀))))
+Inv-lengths periods costs demands leaps p from to gaps n b₀ i₀ t₀ b i t =
+    Walk (formOf gaps) periods costs p from b i t × ((b ≤ to) × ((i < length periods) × ((b ≡ b₀) × (i ≡ i₀))))
 
 abbrev μ-lengths : tie.MeasureT-lengths
-μ-lengths periods costs demands leaps p from to n b₀ i₀ t₀ b i t = getD periods i 0 - t
+μ-lengths periods costs demands leaps p from to gaps n b₀ i₀ t₀ b i t = getD periods i 0 - t
 
 abbrev Inv-tasks : tie.InvT-tasks
-Inv-tasks periods costs demands leaps p from to n b₀ i₀ t₀ b i t = Walk periods costs p from b i t × ((b ≤ to) × (b ≡ b₀))
+Inv-tasks periods costs demands leaps p from to gaps n b₀ i₀ t₀ b i t =
+    Walk (formOf gaps) periods costs p from b i t × ((b ≤ to) × (b ≡ b₀))
 
 abbrev μ-tasks : tie.MeasureT-tasks
-μ-tasks periods costs demands leaps p from to n b₀ i₀ t₀ b i t = length periods - i
+μ-tasks periods costs demands leaps p from to gaps n b₀ i₀ t₀ b i t = length periods - i
 
 abbrev Inv-budgets : tie.InvT-budgets
-Inv-budgets periods costs demands leaps p from to n b₀ i₀ t₀ b i t = Walk periods costs p from b i t
+Inv-budgets periods costs demands leaps p from to gaps n b₀ i₀ t₀ b i t = Walk (formOf gaps) periods costs p from b i t
 
 abbrev μ-budgets : tie.MeasureT-budgets
-μ-budgets periods costs demands leaps p from to n b₀ i₀ t₀ b i t = (to + 1) - b
+μ-budgets periods costs demands leaps p from to gaps n b₀ i₀ t₀ b i t = (to + 1) - b
 
 -- the heads of the loops: budgets, tasks, lengths
 abbrev Budgets : Type 0
@@ -46,7 +54,17 @@ abbrev At : Type 0
 At = tie.At-lengths Inv-lengths μ-lengths Inv-tasks μ-tasks Inv-budgets μ-budgets
 
 abbrev began : Budgets → tie.Start Inv-lengths μ-lengths Inv-tasks μ-tasks Inv-budgets μ-budgets
-began w = w .before .before .before .before .before
+began w = w .before .before .before .before .before .before
+
+-- the gaps, the form that they tell, and that it is the one asked for
+abbrev gaps : Budgets → ℕ
+gaps w = w .before .gaps-of .result
+
+told : (w : Budgets) → formOf (gaps w) ≡ paperForm (began w .args .form)
+told w = form-of (paperForm (began w .args .form)) (gaps w) (w .before .gaps-of .ensures)
+
+counted : (w : Budgets) → gaps w ≡ gapsOf (formOf (gaps w))
+counted w = w .before .gaps-of .ensures ∙ ap gapsOf (sym (told w))
 
 abbrev of-tasks : Tasks → Budgets
 of-tasks w = w .before .before
@@ -88,6 +106,9 @@ leapt c = c .before
 abbrev here : Seen → At
 here c = at (waited (leapt c))
 
+abbrev form : At → Form
+form l = formOf (gaps (of-tasks (of-lengths l)))
+
 abbrev ps : At → List ℕ
 ps l = start l .args .periods .now
 
@@ -111,7 +132,7 @@ abbrev demanded : At → ℕ
 demanded l = demandOf (ps l) (es l) (suc (l .lengths .i)) (l .lengths .t)
 
 abbrev waits : At → ℕ
-waits l = waitedOf (start l .args .p) (l .lengths .b) (demanded l)
+waits l = waitedOf (form l) (start l .args .p) (l .lengths .b) (demanded l)
 
 within : (l : At) → l .lengths .t ≤ longest (ps l)
 within l =
@@ -152,26 +173,37 @@ skipped l =
 
 -- what the code has in hand: the demand, what it waits, and the next length
 waits-is : (l : At) (d s : ℕ) → d ≡ getD (start l .args .demands .now) (l .lengths .t * 16 + l .lengths .i) 0
-    → s ≡ waitedOf (start l .args .p) (l .lengths .b) d → s ≡ waits l
-waits-is l d s e f = f ∙ ap (waitedOf (start l .args .p) (l .lengths .b)) (e ∙ cell l)
+    → s ≡ waitedOf (form l) (start l .args .p) (l .lengths .b) d → s ≡ waits l
+waits-is l d s e f = f ∙ ap (waitedOf (form l) (start l .args .p) (l .lengths .b)) (e ∙ cell l)
 
 next-is : (l : At) (d s u : ℕ) → d ≡ getD (start l .args .demands .now) (l .lengths .t * 16 + l .lengths .i) 0
-    → s ≡ waitedOf (start l .args .p) (l .lengths .b) d → u ≡ leapOf (leaps l) (l .lengths .i) d s → u ≡ next l
+    → s ≡ waitedOf (form l) (start l .args .p) (l .lengths .b) d → u ≡ leapOf (leaps l) (l .lengths .i) d s → u ≡ next l
 next-is l d s u e f g =
     g ∙ ap (λ (d : ℕ). leapOf (leaps l) (l .lengths .i) d s) (e ∙ cell l)
     ∙ ap (leapOf (leaps l) (l .lengths .i) (demanded l)) (waits-is l d s e f)
+
+waits-by : (c : Waited)
+    → c .waited .result ≡ waitedOf (form (at c)) (start (at c) .args .p) (at c .lengths .b) (read c .cell-ticks .result)
+waits-by c =
+    let w = of-tasks (of-lengths (at c)) in
+    c .waited .ensures .0
+    ∙ waited-with (form (at c)) (gaps w) (start (at c) .args .p) (at c .lengths .b) (read c .cell-ticks .result) (counted w)
 
 -- of what the code has in hand where the next length is known
 next-here : (c : Seen) → leapt c .leap .result ≡ next (here c)
 next-here c =
     let w = waited (leapt c) in
     next-is (here c) (read w .cell-ticks .result) (w .waited .result) (leapt c .leap .result) (read w .cell-ticks .ensures)
-    (w .waited .ensures .0)
+    (waits-by w)
     (leapt c .leap .ensures)
+
+gaps-of-requires :
+    tie.Need-gaps-of-requires Inv-lengths μ-lengths Inv-tasks μ-tasks Inv-budgets μ-budgets
+gaps-of-requires c κs = search needs
 
 budgets-holds :
     tie.Need-budgets-holds Inv-lengths μ-lengths Inv-tasks μ-tasks Inv-budgets μ-budgets
-budgets-holds c = let s = c .before .before .before .before in walk-start _ _ (s .pre .0 .tasks) _ _ (s .pre .1 .0)
+budgets-holds c = let s = c .before .before .before .before .before in walk-start _ _ _ (s .pre .0 .tasks) _ _ (s .pre .1 .0)
 
 tasks-holds : tie.Need-tasks-holds Inv-lengths μ-lengths Inv-tasks μ-tasks Inv-budgets μ-budgets
 tasks-holds c = (c .before .budgets .inv, (c .if1 .left, refl))
@@ -203,7 +235,9 @@ cell-ticks-requires c κs = search needs
 waited-requires :
     tie.Need-waited-requires Inv-lengths μ-lengths Inv-tasks μ-tasks Inv-budgets μ-budgets
 waited-requires c κs =
-    let l = of-read c in (
+    let l = of-read c in
+    let w = of-tasks (of-lengths l) in (
+      omega (arith, w .before .gaps-of .ensures, gaps-few (paperForm (start l .args .form))),
       omega (arith, l .lengths .inv .0 .begun, start l .pre .1 .0),
       most l,
       ready l .period-most,
@@ -226,12 +260,12 @@ tasks-again c =
     let l = at w in
     let s = start l in
     let d = read w .cell-ticks .ensures ∙ cell l in
-    let e = waits-is l (read w .cell-ticks .result) (w .waited .result) (read w .cell-ticks .ensures) (w .waited .ensures .0) in
+    let e = waits-is l (read w .cell-ticks .result) (w .waited .result) (read w .cell-ticks .ensures) (waits-by w) in
     let enough : demanded l + waits l ≤ l .lengths .t =
     subst (λ (n : ℕ). demanded l + n ≤ l .lengths .t) e
     (subst (λ (n : ℕ). n + w .waited .result ≤ l .lengths .t) d (c .if2 .taken)) in (
-      walk-met (ps l) (es l) (ready l .tasks) (s .args .p) (s .args .from) (s .pre .1 .0) (l .lengths .b) (l .lengths .i) (l .lengths .t)
-          (most l) (some-task l) (l .lengths .inv .0) enough,
+      walk-met (form l) (ps l) (es l) (ready l .tasks) (s .args .p) (s .args .from) (s .pre .1 .0) (l .lengths .b) (l .lengths .i)
+          (l .lengths .t) (most l) (some-task l) (l .lengths .inv .0) enough,
       (l .lengths .inv .1 .0, l .lengths .inv .1 .1 .1 .0 ∙ of-lengths l .tasks .inv .1 .1),
     )
 
@@ -260,8 +294,8 @@ budgets-again :
 budgets-again c =
     let l = here (c .before) in
     let s = start l in
-    walk-fails (ps l) (es l) (ready l .tasks) (s .args .p) (s .args .from) (s .pre .1 .0) (l .lengths .b) (l .lengths .i) (l .lengths .t)
-    (most l) (some-task l) (l .lengths .inv .0) (next l) (skipped l)
+    walk-fails (form l) (ps l) (es l) (ready l .tasks) (s .args .p) (s .args .from) (s .pre .1 .0) (l .lengths .b) (l .lengths .i)
+    (l .lengths .t) (most l) (some-task l) (l .lengths .inv .0) (next l) (skipped l)
     (subst (λ (u : ℕ). getD (ps l) (l .lengths .i) 0 < u) (next-here (c .before)) (c .if3 .taken))
 
 -- the next length is longer: what it leaps to is at least the demand and what it waits, or above all
@@ -289,8 +323,8 @@ lengths-again c =
     let e = next-here (c .before) in
     let inside = subst (λ (u : ℕ). u ≤ getD (ps l) (l .lengths .i) 0) e (c .if3 .left) in
     let on = subst (λ (u : ℕ). l .lengths .t ≤ u) e (omega (arith, onward (c .before))) in (
-      subst (λ (u : ℕ). Walk (ps l) (es l) (s .args .p) (s .args .from) (l .lengths .b) (l .lengths .i) u) (sym e)
-          (walk-jump (ps l) (es l) (ready l .tasks) (s .args .p) (s .args .from) (s .pre .1 .0) (l .lengths .b) (l .lengths .i)
+      subst (λ (u : ℕ). Walk (form l) (ps l) (es l) (s .args .p) (s .args .from) (l .lengths .b) (l .lengths .i) u) (sym e)
+          (walk-jump (form l) (ps l) (es l) (ready l .tasks) (s .args .p) (s .args .from) (s .pre .1 .0) (l .lengths .b) (l .lengths .i)
           (l .lengths .t) (most l) (some-task l) (l .lengths .inv .0) (next l) (skipped l) inside on),
       l .lengths .inv .1,
     )
@@ -300,16 +334,19 @@ returns c =
     let s = began (c .before) in
     let a = s .args in
     let w = c .before .budgets in
-    walk-none (a .periods .now) (a .costs .now) (s .pre .0 .tasks) (a .p) (a .from) (s .pre .1 .0) (a .to) (w .b) (w .i) (w .t) (w .inv)
-    (c .if1 .taken)
+    subst (λ (f : Form). 0 ≡ first (λ b. leb (a .from) b && passes f (a .p) (a .periods .now) (a .costs .now) b) (a .to)) (told (c .before))
+    (walk-none (formOf (gaps (c .before))) (a .periods .now) (a .costs .now) (s .pre .0 .tasks) (a .p) (a .from) (s .pre .1 .0) (a .to)
+    (w .b) (w .i) (w .t) (w .inv) (c .if1 .taken))
 
 returns-2 : tie.Need-returns-2 Inv-lengths μ-lengths Inv-tasks μ-tasks Inv-budgets μ-budgets
 returns-2 c =
-    let s = began (of-tasks (c .before)) in
+    let k = of-tasks (c .before) in
+    let s = began k in
     let a = s .args in
     let w = c .before .tasks in
-    walk-found (a .periods .now) (a .costs .now) (s .pre .0 .tasks) (a .p) (a .from) (s .pre .1 .0) (a .to) (w .b) (w .i) (w .t)
-    (w .inv .0) (w .inv .1 .0) (s .pre .1 .1) (c .tasks-test .left)
+    subst (λ (f : Form). w .b ≡ first (λ b. leb (a .from) b && passes f (a .p) (a .periods .now) (a .costs .now) b) (a .to)) (told k)
+    (walk-found (formOf (gaps k)) (a .periods .now) (a .costs .now) (s .pre .0 .tasks) (a .p) (a .from) (s .pre .1 .0) (a .to) (w .b) (w .i)
+    (w .t) (w .inv .0) (w .inv .1 .0) (s .pre .1 .1) (c .tasks-test .left))
 
 pub first-budget-spec : {M : Type 1} → statement M
 first-budget-spec =
@@ -321,6 +358,7 @@ first-budget-spec =
     μ-tasks
     Inv-budgets
     μ-budgets
+    gaps-of-requires
     budgets-holds
     tasks-holds
     lengths-holds

@@ -1,8 +1,10 @@
 -- `least_under` is the least budget up to `cap`: where `cap` fails nothing passes, else the search begins above a failing budget. Its
 -- places are named once. Assumes nothing.
+use Rattle.model.specs.Form.{Form}
 use Rattle.model.specs.Share.{passes}
 use Rattle.model.specs.Search.{first}
 use Rattle.model.proofs.Places.{first-none, first-at}
+use Rattle.shares.specs.Paper.{paperForm}
 use Rattle.shares.proofs.Budgets.{fails-below, one-fails, one-passes, skip}
 use native.Mathlib.Omega.{arith}
 use mathlib.Core.List.{List}
@@ -17,6 +19,9 @@ Here = tie.After-shared-slice-known4
 
 abbrev start : Here → tie.Start
 start c = c .before .before .before .before
+
+abbrev form : Here → Form
+form c = paperForm (start c .args .form)
 
 abbrev P : Here → ℕ
 P c = start c .args .p
@@ -38,7 +43,7 @@ abbrev below : tie.After-failing-below → tie.After-first-budget
 below c = c .before .before
 
 returns : tie.Need-returns
-returns c = let k = c .before in sym (ap (first (passes (P k) (ps k) (es k))) (c .if1 .taken))
+returns c = let k = c .before in sym (ap (first (passes (form k) (P k) (ps k) (es k))) (c .if1 .taken))
 
 first-budget-requires : tie.Need-first-budget-requires
 first-budget-requires c κs = let s = start (c .before) in (s .pre .0, (omega (arith, c .if1 .left), s .pre .1))
@@ -50,9 +55,9 @@ returns-2 c =
     let tasks = start k .pre .0 .tasks in
     let some-cap : 1 ≤ cap k = omega (arith, f .before .if1 .left) in
     sym
-    (first-none (passes (P k) (ps k) (es k)) (cap k)
-    (fails-below (P k) (ps k) (es k) tasks (cap k) (start k .pre .1)
-    (one-fails (P k) (ps k) (es k) tasks (cap k) some-cap (sym (c .if2 .taken) ∙ f .first-budget .ensures))))
+    (first-none (passes (form k) (P k) (ps k) (es k)) (cap k)
+    (fails-below (form k) (P k) (ps k) (es k) tasks (cap k) (start k .pre .1)
+    (one-fails (form k) (P k) (ps k) (es k) tasks (cap k) some-cap (sym (c .if2 .taken) ∙ f .first-budget .ensures))))
 
 failing-below-requires : tie.Need-failing-below-requires
 failing-below-requires c κs =
@@ -71,9 +76,10 @@ returns-3 c =
     let f = below b in
     let k = tried f in
     let tasks = start k .pre .0 .tasks in
-    let top = one-passes (P k) (ps k) (es k) tasks (cap k) (f .first-budget .result) (b .before .if2 .left) (f .first-budget .ensures) in
+    let top = one-passes (form k) (P k) (ps k) (es k) tasks (cap k) (f .first-budget .result)
+    (b .before .if2 .left) (f .first-budget .ensures) in
     sym
-    (first-at (passes (P k) (ps k) (es k)) (cap k) (cap k) (omega (arith, f .before .if1 .left)) (omega arith) top
+    (first-at (passes (form k) (P k) (ps k) (es k)) (cap k) (cap k) (omega (arith, f .before .if1 .left)) (omega arith) top
     (λ x p l. b .failing-below .ensures .1 x p (omega (arith, c .if3 .taken))))
 
 first-budget-requires-2 : tie.Need-first-budget-requires-2
@@ -84,7 +90,7 @@ returns-4 c =
     let b = c .before .before in
     let k = tried (below b) in
     c .first-budget2 .ensures
-    ∙ skip (P k) (ps k) (es k) (start k .pre .0 .tasks) (b .failing-below .result) (cap k) (b .failing-below .ensures .1)
+    ∙ skip (form k) (P k) (ps k) (es k) (start k .pre .0 .tasks) (b .failing-below .result) (cap k) (b .failing-below .ensures .1)
 
 pub least-under-spec : {M : Type 1} → statement M
 least-under-spec =
