@@ -1,23 +1,12 @@
 //! `compare-sales`: the given program and this one on the same questions and sheets, one start of
 //! the program for each.
 
-use crate::compare_sizing::{agree, shown};
+use crate::compare_sizing::{agree, shown, Plan};
 use crate::pipe::{self, Part};
 use crate::reached::Reached;
 use crate::sales;
 use crate::sales_cases;
 use crate::sales_inputs::{self, Inputs, Sent};
-use std::time::Duration;
-
-pub struct Plan {
-    pub program: String,
-    pub seed: u64,
-    /// All inputs, those included that are the same for every seed.
-    pub count: u64,
-    pub list: bool,
-    /// How long to wait for the program to end.
-    pub wait: Duration,
-}
 
 /// How an input is sent.
 #[derive(Clone, Copy, PartialEq, Debug)]

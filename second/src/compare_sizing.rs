@@ -40,9 +40,11 @@ pub const ENDS: [&[u8]; 27] = [
     b"aligned least 5 5 1 10 3\nleast 5 5 1 10 3\naligned \nleast 5 5 1 10 3\n",
 ];
 
+/// Of `compare-sales` too.
 pub struct Plan {
     pub program: String,
     pub seed: u64,
+    /// All queries or inputs, those included that are the same for every seed.
     pub count: u64,
     pub list: bool,
     /// How long to wait for the program to end.

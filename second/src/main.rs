@@ -171,7 +171,7 @@ fn try_program(command: &str, options: &Options) -> Result<String, String> {
         }
         "compare-sales" => {
             let count = options.number("count", 3000);
-            compare_sales::run(&compare_sales::Plan { program, seed, count, list, wait })
+            compare_sales::run(&compare_sizing::Plan { program, seed, count, list, wait })
         }
         "compare-card" => {
             let records = options.number("records", compare_card::RECORDS);
