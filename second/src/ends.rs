@@ -1,7 +1,7 @@
 //! `ends-card`, `ends-sizing`, `ends-sales` and `ends-usage`: how a program ends where it cannot read or
 //! write. A read or write that fails ends it with a line on standard error, and a failed read is no end
-//! of input; a reader that is gone ends it by SIGPIPE and without a line. It has to end
-//! though more input may come.
+//! of input; a write to a reader that is gone fails like any other. It has to end though
+//! more input may come.
 
 use crate::lines::Card;
 use crate::pipe;
@@ -15,9 +15,8 @@ use std::process::{Child, ChildStdin, Command, Stdio};
 use std::sync::atomic::{AtomicU32, Ordering};
 use std::time::{Duration, Instant};
 
-/// Linux's O_NONBLOCK and SIGPIPE.
+/// Linux's O_NONBLOCK.
 const DOES_NOT_BLOCK: i32 = 0o4000;
-const BROKEN_PIPE: i32 = 13;
 
 /// A program, how it calls itself, and input for it.
 struct Subject<'a> {
@@ -207,9 +206,7 @@ impl Subject<'_> {
         // One that has met the closed pipe already takes no more.
         to.write_all(&self.answered).ok();
         let _to = self.left_open(to);
-        let meant =
-            End { output: String::new(), complaint: String::new(), signal: Some(BROKEN_PIPE), code: None };
-        agree(case, &self.ended(case, child)?, &meant)
+        agree(case, &self.ended(case, child)?, &self.failed("", "write"))
     }
 }
 
@@ -255,7 +252,7 @@ mod tests {
     const WRITE: &str = "{ echo 'echo: a write failed' >&2; exit 0; }";
 
     fn script(first: &str, write: &str, last: &str) -> String {
-        format!("{first} {}; {last}; true", LOOP.replace("WRITE", write))
+        format!("trap '' PIPE; {first} {}; {last}; true", LOOP.replace("WRITE", write))
     }
 
     fn waiting(script: &str, limit: Duration) -> Subject<'_> {
@@ -293,7 +290,7 @@ mod tests {
     /// One that reads all before it writes, and what it does where that fails.
     fn at_the_end(failed_read: &str) -> String {
         let write = WRITE.replace("exit 0", "true");
-        format!("all=$(cat 2>/dev/null) || {{ {failed_read} }}; echo \"$all\" 2>/dev/null || {write}")
+        format!("trap '' PIPE; all=$(cat 2>/dev/null) || {{ {failed_read} }}; echo \"$all\" 2>/dev/null || {write}")
     }
 
     fn waiting_for_the_end(script: &str) -> Subject<'_> {
@@ -339,12 +336,12 @@ mod tests {
 
     #[test]
     fn another_end_for_a_gone_reader_is_seen() {
-        let complains = script("trap '' PIPE;", WRITE, READ);
-        assert!(subject(&complains).failed_writes().is_ok());
-        is_seen(subject(&complains).gone_readers(), "a reader that is gone");
-        let silent = script("trap '' PIPE;", "exit 0", READ);
+        let by_signal = script("trap - PIPE;", WRITE, READ);
+        assert!(subject(&by_signal).failed_writes().is_ok());
+        is_seen(subject(&by_signal).gone_readers(), "a reader that is gone");
+        let silent = script("", "exit 0", READ);
         is_seen(subject(&silent).gone_readers(), "a reader that is gone");
-        let goes_on = script("trap '' PIPE;", "true", READ);
+        let goes_on = script("", "true", READ);
         is_waited_for(&goes_on, |subject| subject.gone_readers());
     }
 }

@@ -17,7 +17,7 @@ use Rattle.reads.proofs.Runs.{Laws}
 use Rattle.turns.specs.declared.Core.{Core}
 use Rattle.turns.specs.State.{made}
 use Rattle.lines.specs.Serve.{Run, serve_of}
-use Rattle.lines.proofs.Served.{serve_end}
+use Rattle.lines.proofs.ServedLines.{serve_end}
 use Rattle.lines.proofs.Rest.{left-few, rest-left, used-within, further, cut_goes_on}
 use Rattle.card.specs.declared.Round.{Round}
 use Rattle.card.specs.Program.{round_of, after_read, program}

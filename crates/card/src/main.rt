@@ -1,5 +1,7 @@
 // The card: event records from standard input, one line each to standard output. Every line that can be given is
 // written before more input is waited for.
+#![tactic(auto)]
+
 ghost use Rattle.std.specs.Prelude.{◌+◌, ◌^◌, ◌≤◌, ◌<◌, ◌≡◌, ◌⊎◌, length, take};
 ghost use Rattle.reads.specs.declared.Standing.TheVariants.{WriteFailed};
 ghost use Rattle.reads.specs.Reads.{Bytes, to_serve, last_bytes};
@@ -8,14 +10,14 @@ ghost use Rattle.turns.specs.State.{ValidCore};
 ghost use Rattle.lines.specs.Text.{longest};
 ghost use Rattle.card.specs.Program.{served_part, round_of, program};
 
-use libc::{STDERR_FILENO, STDIN_FILENO, STDOUT_FILENO};
 use lines::Served;
 use reads::Standing;
+use std::io::{Read, Write};
 use turns::{Core, Refusal};
 
 // The core, the place of the first byte that waits for the rest of its record, how many wait, how the program
 // stands, and, where it is refused, with which refusal.
-#[derive(Drop)]
+#[derive(Clone, Copy)]
 struct Round {
     core: Core,
     offset: u64,
@@ -25,17 +27,26 @@ struct Round {
 }
 
 // `sizing` has its own: a library's function has to promise its result, and no contract says whether a write works.
-fn is_written(lines: &[u8]) -> bool {
-    let ok = io::write_all(STDOUT_FILENO, lines);
+fn is_written<W: Write, E: Write>(output: &mut W, errors: &mut E, lines: &[u8]) -> bool {
+    let ok = reads::write_all(output, lines);
     if !ok {
-        io::write_all(STDERR_FILENO, b"card: a write failed\n");
+        reads::write_all(errors, b"card: a write failed\n");
     }
     ok
 }
 
 // Writes the line of every record before `end` that can be answered, in as many goes as the room for lines asks for. "After
 // 20, 21 or 22 the program stops"; "At the end of input the program asks for no further record."
-fn answered(core: Core, offset: u64, input: &[u8], end: usize, last: bool, out: &mut [u8]) -> Round
+fn answered<W: Write, E: Write>(
+    output: &mut W,
+    errors: &mut E,
+    core: Core,
+    offset: u64,
+    input: &[u8],
+    end: usize,
+    last: bool,
+    out: &mut [u8],
+) -> Round
     requires { ValidCore core × (end ≤ length input.now) × (longest ≤ length out.old) × (offset + end < 2 ^ 64) }
     ensures valid_core { ValidCore result.core × (result.held ≤ end) }
     ensures fact { (result.standing ≡ WriteFailed) ⊎ (result ≡ served_part core offset (take end input.now) last) }
@@ -55,7 +66,7 @@ fn answered(core: Core, offset: u64, input: &[u8], end: usize, last: bool, out: 
         let begins = offset + used as u64;
         served = lines::serve(served.core, &input[used..end], begins, last, out);
         used += served.used;
-        let ok = is_written(&out[..served.written]);
+        let ok = is_written(output, errors, &out[..served.written]);
         if !ok || served.stopped || served.used == 0 {
             let core = served.core;
             let offset = offset + used as u64;
@@ -74,7 +85,9 @@ fn answered(core: Core, offset: u64, input: &[u8], end: usize, last: bool, out: 
 
 // Serves what a read left behind the bytes that waited, where it answered `got`. There is room behind them, so that no
 // byte read means the end of the input. What waits then stands in front.
-fn one_round(
+fn one_round<W: Write, E: Write>(
+    output: &mut W,
+    errors: &mut E,
     core: Core,
     offset: u64,
     input: &mut [u8],
@@ -87,7 +100,7 @@ fn one_round(
     ensures fact { (result.standing ≡ WriteFailed) ⊎ (result ≡ round_of core offset held (to_serve input.old held got) got) }
 {
     if got < 0 {
-        io::write_all(STDERR_FILENO, b"card: a read failed\n");
+        reads::write_all(errors, b"card: a read failed\n");
         return Round {
             core,
             offset,
@@ -102,7 +115,7 @@ fn one_round(
     let n = io::count(got, &input[held..]);
     let last = n == 0;
     let end = held + n;
-    let r = answered(core, offset, input, end, last, out);
+    let r = answered(output, errors, core, offset, input, end, last, out);
     let from = end - r.held;
     reads::move_rest(input, from, end);
     r
@@ -110,7 +123,7 @@ fn one_round(
 
 // Reads and serves until there is a reason to end, and hands it back with what was served. The loop carries the round:
 // a local for its core would cost a copy of the table.
-fn run() -> Round
+fn run<R: Read, W: Write, E: Write>(from: &mut R, output: &mut W, errors: &mut E) -> Round
     ensures { ValidCore result.core × Ran program result }
 {
     let mut input = io::large_buffer();
@@ -128,8 +141,10 @@ fn run() -> Round
     loop {
         let held = r.held;
         let part = &mut input[held..];
-        let got = libc::read(STDIN_FILENO, part);
-        r = one_round(r.core, r.offset, &mut input, held, got, &mut out);
+        let got = reads::read_part(from, part);
+        r = one_round(
+            output, errors, r.core, r.offset, &mut input, held, got, &mut out,
+        );
         let standing = r.standing;
         let Standing::GoesOn = standing else {
             return r;
@@ -137,6 +152,6 @@ fn run() -> Round
     }
 }
 
-fn main() {
-    run();
+fn main(rt: HostRuntime) {
+    run(&mut rt.stdin(), &mut rt.stdout(), &mut rt.stderr());
 }

@@ -30,7 +30,7 @@ use Rattle.lines.specs.Asked.{Asked, asking_of, asked_after, sent, replies, line
 use Rattle.records.specs.Rows.{Detail}
 use Rattle.lines.specs.Answers.{stops_at, is_there, Answered}
 use Rattle.lines.proofs.Reading.{some_bytes}
-use Rattle.lines.proofs.Served.{serve_end, serve_full, serve_no, serve_event}
+use Rattle.lines.proofs.ServedLines.{serve_end, serve_full, serve_no, serve_event}
 use Rattle.lines.proofs.Rest.{Left, rest-left}
 use Rattle.lines.proofs.Asked.{asked-end, asked-event, asked-no, refused-at, sent-size}
 

@@ -25,7 +25,7 @@ use Rattle.lines.specs.Text.{line_of}
 use Rattle.lines.specs.Serve.{Run, time_of, change_of, rests, stops, waits_for, refuses, behind, full, less, serve_of}
 use Rattle.lines.specs.Parts.{Part, onward, one_piece, in_parts}
 use Rattle.lines.proofs.Reading.{some_bytes, within, event-behind, refusal-behind}
-use Rattle.lines.proofs.Served.{serve_end, serve_full, serve_no, serve_event}
+use Rattle.lines.proofs.ServedLines.{serve_end, serve_full, serve_no, serve_event}
 
 onward-rests : (core : Core) (x : Run) → onward (rests core) x ≡ x
 onward-rests core x = rw zero-add

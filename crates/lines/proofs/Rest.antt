@@ -32,7 +32,7 @@ use Rattle.lines.specs.Text.{line_of}
 use Rattle.lines.specs.Serve.{Run, no_refusal, time_of, change_of, rests, waits_for, refuses, full, less, serve_of, card_lines}
 use Rattle.lines.specs.Parts.{Part, one_piece, in_parts}
 use Rattle.lines.proofs.Reading.{some_bytes, within}
-use Rattle.lines.proofs.Served.{serve_end, serve_full, serve_no, serve_event}
+use Rattle.lines.proofs.ServedLines.{serve_end, serve_full, serve_no, serve_event}
 use Rattle.lines.proofs.Parts.{any-cut, any-room, parts_same}
 
 -- tag 1, length 2, and no payload is longer than an admit's 21

@@ -15,7 +15,7 @@ const CUT_SHORT: u8 = 20;
 
 // The core handed back, the bytes of the records answered, the bytes of their lines, and whether the input was
 // refused, so that nothing more is read: then with that refusal, else with one of zeros.
-#[derive(Drop)]
+#[derive(Clone, Copy)]
 pub struct Served {
     pub core: Core,
     pub used: usize,

@@ -3,10 +3,12 @@
 // Standard input: four digits for how many VCPUs, one for the mix, ten for how many calls. The mixes: 0 mixed, 1 busy, 2 mixed with a third
 // of the VCPUs of each kind, 3 leaving and coming back, of all kinds too, 4 to 6 short uses and a gap in turn, so that 2, 4 or 8 fall due
 // at once, 7 to 9 the call behind the first such gap, again and again on the same card.
+#![tactic(auto)]
+
 ghost use Rattle.std.specs.Prelude.{◌≤◌, ◌<◌};
 ghost use Rattle.turns.specs.State.{ValidCore};
 
-use libc::{STDIN_FILENO, STDOUT_FILENO};
+use std::io::Write;
 use turns::{
     Answer, Change, Core, Description, Holder, LARGEST_TUNNEL, Refusal, Reply, Report, Timer,
 };
@@ -23,7 +25,7 @@ const NOBODY: u64 = TOO_LARGE as u64;
 // The period in the runs with gaps, and the gap.
 const GAP: u32 = 1000;
 
-#[derive(Drop)]
+#[derive(Clone, Copy)]
 struct Event {
     now: Moment,
     change: Change,
@@ -31,7 +33,7 @@ struct Event {
 
 // What the generator remembers: the time of the last accepted call and the timer; the sums, of times and timers, of the identifiers that
 // ran, of amounts, usable and brought, of refusals' numbers, of their details; and how many calls were refused.
-#[derive(Drop)]
+#[derive(Clone, Copy)]
 struct Seen {
     last: Moment,
     timer: Moment,
@@ -465,7 +467,7 @@ fn draw(s: u64) -> u64
 }
 
 // Some calls: what the last one was answered, what was seen of all, and the last number drawn.
-#[derive(Drop)]
+#[derive(Clone, Copy)]
 struct Calls {
     answer: Answer,
     seen: Seen,
@@ -558,23 +560,24 @@ fn paced(n: u64, mix: u64, calls: u64) -> Seen
     again(kept, n, mix, gap, calls)
 }
 
-fn put(sum: u64) {
-    io::print_decimal(STDOUT_FILENO, sum);
-    io::write_all(STDOUT_FILENO, b" ");
+fn put<W: Write>(output: &mut W, sum: u64) {
+    reads::write_number(output, sum);
+    reads::write_all(output, b" ");
 }
 
-fn main() {
+fn main(rt: HostRuntime) {
+    let output = &mut rt.stdout();
     let mut input = [b'0'; 15];
-    libc::read(STDIN_FILENO, &mut input);
+    reads::read_part(&mut rt.stdin(), &mut input);
     let n = least_one(number(&input, 0, 4));
     let mix = number(&input, 4, 5);
     let calls = number(&input, 5, 15);
     let had = paced(n, mix, calls);
-    put(had.times);
-    put(had.tunnels);
-    put(had.amounts);
-    put(had.numbers);
-    put(had.details);
-    io::print_decimal(STDOUT_FILENO, had.refused);
-    io::write_all(STDOUT_FILENO, b"\n");
+    put(output, had.times);
+    put(output, had.tunnels);
+    put(output, had.amounts);
+    put(output, had.numbers);
+    put(output, had.details);
+    reads::write_number(output, had.refused);
+    reads::write_all(output, b"\n");
 }

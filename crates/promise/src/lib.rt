@@ -1,1 +1,2 @@
 // What it means that a promise allows one reply: a definition, no code.
+#![tactic(auto)]

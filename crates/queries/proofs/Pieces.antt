@@ -5,10 +5,10 @@ use mathlib.Core.Bool.{Bool, true, false, cond}
 use mathlib.Core.List.{List, [], ◌∷◌}
 use native.Mathlib.Omega.{arith}
 use lib.Dec.{eqb}
-use lib.ListN.{length, take, drop, length-drop}
-use lib.Seq.{drop-drop, take_all}
-use borrow.Author.Tests.{eqb-false}
-use Rattle.bytes.specs.Bytes.{index_of, index_after, slice}
+use lib.ListN.{length, get_or, take, drop, length-drop}
+use lib.Seq.{drop-cons, drop-drop, take_all}
+use native.Mathlib.Numerals.{add-one}
+use borrow.Author.Tests.{eqb-false, eq-eqb, ne_eqb}
 use Rattle.queries.specs.Meaning.{until, behind}
 use Rattle.queries.specs.Private.{pieces_from}
 
@@ -49,22 +49,16 @@ behind_more b (x ∷ t) h = go (eqb x b) h (behind_more b t)
     go true h r = refl
     go false h r = r (omega arith)
 
--- the library's search finds where the first piece ends
-index_until : (b : ℕ) (t : List ℕ) → index_of b t ≡ length (until b t)
-unfolding index_of index_after
-index_until b [] = refl
-index_until b (x ∷ t) = go (eqb x b) (index_until b t)
-  where
-    go : (c : Bool) → index_of b t ≡ length (until b t) → index_after c (index_of b t) ≡ length (cond c [] (x ∷ until b t))
-    go true h = refl
-    go false h = ap suc h
+-- the search looks at the bytes one by one
+pub here : (b : ℕ) (s : List ℕ) (k : ℕ) → k < length s → get_or s k 0 ≡ b → length (until b (drop k s)) ≡ 0
+here b s k h e = rw (drop-cons s k 0 h, eq-eqb (get_or s k 0) b e)
 
-pub found : (b : ℕ) (s : List ℕ) (from r : ℕ) → r ≡ from + index_of b (slice from (length s) s) → r ≡ from + length (until b (drop from s))
-unfolding slice
-found b s from r e =
-    e
-    ∙ ap (λ (n : ℕ). from + n) (index_until b (drop from (take (length s) s))
-    ∙ ap (λ (l : List ℕ). length (until b (drop from l))) (take_all (length s) s (omega arith)))
+pub further : (b : ℕ) (s : List ℕ) (k : ℕ) → k < length s → (get_or s k 0 ≡ b → ⊥)
+    → length (until b (drop k s)) ≡ suc (length (until b (drop (k + 1) s)))
+further b s k h e = rw (drop-cons s k 0 h, ne_eqb (get_or s k 0) b e, add-one)
+
+pub at_end_lem : (b : ℕ) (s : List ℕ) (k : ℕ) → length s ≤ k → length (until b (drop k s)) ≡ 0
+at_end_lem b s k h = omega (arith, until-few b (drop k s), length-drop k s)
 
 -- a piece that begins at `from` and ends at `end`
 module _ (b : ℕ) (s : List ℕ) (from end : ℕ) (inside : from ≤ length s) (e : end ≡ from + length (until b (drop from s))) where

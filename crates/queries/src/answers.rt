@@ -7,7 +7,7 @@ ghost use Rattle.queries.specs.Private.{head_text, text_of};
 
 use shares::{Budget, Interface, Refusal, Ticks, Verdict};
 
-#[derive(Drop)]
+#[derive(Clone, Copy)]
 pub(crate) enum Head {
     Ok,
     No,
@@ -17,7 +17,7 @@ pub(crate) enum Head {
     Help,
 }
 
-#[derive(Drop)]
+#[derive(Clone, Copy)]
 pub(crate) struct Answer {
     pub(crate) head: Head,
     // How many of the numbers are said.

@@ -17,7 +17,7 @@ use text::is_same;
 
 const SPACE: u8 = b' ';
 
-#[derive(Drop)]
+#[derive(Clone, Copy)]
 pub(crate) enum Word {
     Supply,
     Demand,
@@ -26,7 +26,7 @@ pub(crate) enum Word {
     Best,
 }
 
-#[derive(Drop)]
+#[derive(Clone, Copy)]
 pub(crate) enum Spoken {
     Known(Word),
     Help,
@@ -86,7 +86,7 @@ fn is_too_many(word: Word, k: usize) -> bool
 const KEPT: usize = 37;
 
 // How many fields there are, the numbers of the first ones, and the first bad field; where there is one, the rest says nothing.
-#[derive(Drop)]
+#[derive(Clone, Copy)]
 struct Fields {
     numbers: [u32; KEPT],
     count: usize,
@@ -193,7 +193,7 @@ fn put_to_shares(
     periods: &[u32],
     costs: &[u32],
 ) -> Answer
-    ensures { text_of result ≡ line_of (reply_to (question (paper_form form) word a b c (record { periods = periods.entry.now; costs = costs.now }))) }
+    ensures { text_of result ≡ line_of (reply_to (question (paper_form form) word a b c (record { periods = periods.now; costs = costs.now }))) }
 {
     match word {
         Word::Supply => of_ticks(shares::supply(form, a, b, c)),
@@ -289,7 +289,7 @@ fn pieces_asked(form: Form, line: &[u8], from: usize, end: usize) -> Answer
 }
 
 // Where the word begins and ends, and its form; it is lost where nothing stands behind `aligned`.
-#[derive(Drop)]
+#[derive(Clone, Copy)]
 struct Begun {
     lost: bool,
     form: Form,

@@ -4,14 +4,21 @@ ghost use Rattle.queries.specs.Meaning.{until, is_digit};
 ghost use Rattle.queries.specs.Private.{with_digit, number_read};
 
 // The place of the first such byte at or behind `from`; the end where there is none.
-pub(crate) fn find(s: &[u8], from: usize, byte: u8) -> usize
+pub fn find(s: &[u8], from: usize, byte: u8) -> usize
     requires { from ≤ length s.now }
     ensures { result ≡ from + length (until byte (drop from s.now)) }
 {
-    bytes::scan::find(s, from, s.len(), byte)
+    let mut k = from;
+    while k < s.len() {
+        if s[k] == byte {
+            return k;
+        }
+        k += 1;
+    }
+    k
 }
 
-#[derive(Drop)]
+#[derive(Clone, Copy)]
 pub(crate) enum Number {
     Is(u32),
     None,

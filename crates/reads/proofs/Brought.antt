@@ -7,8 +7,7 @@ use lib.IntN.{ℤ, pos}
 use lib.ListN.{length, take, drop, length-take}
 use lib.Seq.{get_or-drop}
 use Rattle.io.specs.Counts.{clamp_len}
-use Rattle.libc.specs.Io.{Moved}
-use Rattle.reads.specs.Reads.{Bytes, Read, brought, came}
+use Rattle.reads.specs.Reads.{Moved, Bytes, Read, brought, came}
 
 -- a read that answers k brings k bytes
 pub brings : (x : Read) (k : ℕ) → x.got ≡ pos k → length (brought x) ≡ k

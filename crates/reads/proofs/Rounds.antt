@@ -12,8 +12,7 @@ use lib.ListN.{length, take, drop, length-append, length-take, length-drop}
 use lib.Seq.{slice, length-slice, take_at, take-add, length-take-le}
 use borrow.Author.Tests.{ltb-true, eqb-true, eqb-false, eq-eqb, ne_eqb}
 use Rattle.io.specs.Counts.{clamp_len}
-use Rattle.libc.specs.Io.{Moved}
-use Rattle.reads.specs.Reads.{moved, to_serve, last_bytes}
+use Rattle.reads.specs.Reads.{Moved, moved, to_serve, last_bytes}
 use Rattle.reads.proofs.Moving.{all_moved}
 
 -- the buffer `input`, of n bytes, after a read behind its first `held` bytes that left `part`

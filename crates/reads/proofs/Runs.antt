@@ -11,9 +11,8 @@ use lib.ListN.{length, take, drop, length-append, length-drop}
 use lib.Seq.{drop-drop, drop-append-le, length-take-le}
 use borrow.Author.Tests.{eqb-false}
 use Rattle.io.specs.Counts.{clamp_len}
-use Rattle.libc.specs.Io.{Moved}
 use Rattle.reads.specs.declared.Standing.TheVariants.{GoesOn, WriteFailed}
-use Rattle.reads.specs.Reads.{Bytes, Read, came, to_serve, last_bytes, is_zero, at_end, is_below, has_failed}
+use Rattle.reads.specs.Reads.{Moved, Bytes, Read, came, to_serve, last_bytes, is_zero, at_end, is_below, has_failed}
 use Rattle.reads.specs.Program.{Program, after_reads, EachGoesOn, Ran}
 use Rattle.reads.proofs.Reasons.{number}
 use Rattle.reads.proofs.Brought.{bytes-behind}

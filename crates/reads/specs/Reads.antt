@@ -1,9 +1,10 @@
--- Reads, and what came by them. A read is told by the bytes that it left and by its answer; what the calls of the C library read and
+-- Reads, and what came by them. A read is told by the bytes that it left and by its answer; what the system's calls read and
 -- write no contract says. Assumes nothing.
-use Rattle.std.specs.Prelude.{ℕ, ◌+◌, ◌-◌, ◌≤◌, ◌<◌, Bool, false, true, cond, not, ◌&&◌, List, [], ◌∷◌, ◌++◌, leb, eqb, ℤ, pos, negsuc, length, get_or, take, drop}
+use Rattle.std.specs.Prelude.{◌≡◌, ℕ, ◌+◌, ◌-◌, ◌≤◌, ◌<◌, Bool, false, true, cond, not, ◌&&◌, List, [], ◌∷◌, ◌++◌, leb, eqb, ℤ, pos, negsuc, length, get_or, take, drop}
+use Rattle.std.specs.declared.option.Option.{Option}
+use Rattle.std.specs.Io.KnownBytes.{Keeps, Consumes, IsAtEnd}
 use Rattle.std.proofs.Math.Seq.{slice}
 use Rattle.io.specs.Counts.{clamp_len}
-use Rattle.libc.specs.Io.{Moved}
 use Rattle.reads.specs.declared.Standing.{Standing}
 use Rattle.reads.specs.declared.Standing.TheVariants.{GoesOn, EndOfInput, Refused, WriteFailed, ByteLimit}
 
@@ -23,7 +24,18 @@ moved from end l = cond (leb from end && leb end (length l)) (slice from end l +
 abbrev pub Bytes : List ℕ → Type 0
 Bytes l = (i : ℕ) → get_or l i 0 < 256
 
--- a read: the part that it was lent, as it left it, and its answer, which the C library promises not to be above the part's length
+-- what a read into n bytes may answer: -1, or how many bytes it brought, at most n
+abbrev pub Moved : ℕ → ℤ → Type 0
+Moved n (pos k) = k ≤ n
+Moved n (negsuc k) = k ≡ 0
+
+-- what such a read into `part` takes of the bytes that a reader has left, where these are known: nothing where it failed, else those it
+-- brought; it brings none at the end alone, or where there is no room
+abbrev pub Brings : Option (List ℕ) → Option (List ℕ) → ℤ → List ℕ → Type 0
+Brings before after (pos k) part = Consumes before after (take k part) × (k ≡ 0 → 0 < length part → IsAtEnd after)
+Brings before after (negsuc k) part = Keeps before after
+
+-- a read: the part that it was lent, as it left it, and its answer, which `read_part` promises not to be above the part's length
 pub record Read : Type 0 where
   pub part : List ℕ
   pub are_bytes : Bytes part

@@ -2,7 +2,7 @@
 use turns::{Description, Refusal};
 use units::{Moment, Tunnel};
 
-#[derive(Drop)]
+#[derive(Clone, Copy)]
 pub enum Event {
     Admit(Moment, Description),
     Wake(Moment, Tunnel),
@@ -11,14 +11,14 @@ pub enum Event {
     Tick(Moment),
 }
 
-#[derive(Drop)]
+#[derive(Clone, Copy)]
 pub enum Read {
     Event(Event),
     No(Refusal),
 }
 
 // The payload bytes that a tag asks for.
-#[derive(Drop)]
+#[derive(Clone, Copy)]
 pub(crate) enum Payload {
     Bytes(usize),
     Unknown,

@@ -1,4 +1,6 @@
 // Event records: bytes to an event or a refusal, and an event to its bytes.
+#![tactic(auto)]
+
 mod answers;
 mod numbers;
 mod reader;

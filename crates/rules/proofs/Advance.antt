@@ -332,7 +332,7 @@ module _ (c : Card) (d : ℕ) (ss : List Stay) (h : List (Option ℕ)) (l : Lawf
 
   owned-step : EachTick (λ o n. owners ss o n ≡ 1) (ticks d c.running h)
   owned-step =
-      each_more _ d c.running h (λ n k. new c.running refl n (omega (arith, l.long)))
+      each_more (λ o n. owners ss o n ≡ 1) d c.running h (λ n k. new c.running refl n (omega (arith, l.long)))
       l.owned
     where
       new : (o : Option ℕ) → c.running ≡ o → (n : ℕ) → c.last ≤ n → owners ss o n ≡ 1

@@ -53,6 +53,7 @@ placed_itself v (w ∷ vs) = go (more_urgent v.terms w.terms) (placed_itself v v
     go false k = inr k
 
 pub placed_among : (v : Vcpu) (vs : List Vcpu) (u : Vcpu) → Among u vs → Among u (placed v vs)
+placed_among v [] u m = elim m [ ]
 placed_among v (w ∷ vs) u m = go (more_urgent v.terms w.terms) m (λ k. placed_among v vs u k)
   where
     go : (t : Bool) → Among u (w ∷ vs) → (Among u vs → Among u (placed v vs)) → Among u (cond t (v ∷ w ∷ vs) (w ∷ placed v vs))

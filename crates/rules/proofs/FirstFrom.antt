@@ -92,6 +92,7 @@ from low v = leb low v.terms.tunnel
 
 module _ (vs : List Vcpu) where
   pub walk-there : (n low t : ℕ) → Among t (walk n low vs) → OnTheCard vs t × (low ≤ t)
+  walk-there zero low t m = elim m [ ]
   walk-there (suc n) low t m = go (first_from low vs) refl m (λ u k. walk-there n (u + 1) t k)
     where
       go : (o : Option ℕ) → first_from low vs ≡ o → Among t (onward o (λ u. walk n (u + 1) vs))

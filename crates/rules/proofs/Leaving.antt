@@ -98,6 +98,7 @@ module _ (calls : List Call) (call : Call) (e : refusal (after calls) call.now c
           by : (u : Option ℕ) → leaves_until w ≡ u → Among r (remembering w.terms.tunnel u)
               → Leaves (after calls) call r.tunnel r.time
           by none g m = absurd m
+          by (some time) g (inr m) = elim m [ ]
           by (some time) g (inl h) =
               let p = found t vs w f in
               let b = was-there (after calls) call.now w p.0 in

@@ -41,6 +41,7 @@ module _ {A : Type 0} where
   all_map_among P R g (a ∷ l) f h = (f a (inl refl) h.0, all_map_among P R g l (λ b m. f b (inr m)) h.1)
 
   pub all_among : (P : A → Type 0) (l : List A) → All P l → (a : A) → Among a l → P a
+  all_among P [] h a m = elim m [ ]
   all_among P (b ∷ l) h a (inl e) = subst P (sym e) h.0
   all_among P (b ∷ l) h a (inr m) = all_among P l h.1 a m
 
@@ -49,10 +50,12 @@ module _ {A : Type 0} where
   among_all P (b ∷ l) f = (f b (inl refl), among_all P l (λ a m. f a (inr m)))
 
   pub among_map : {B : Type 0} (g : A → B) (l : List A) (b : B) → Among b (map g l) → (a : A) × Among a l × (b ≡ g a)
+  among_map {B = B} g [] b m = elim m [ ]
   among_map g (a ∷ l) b (inl e) = (a, inl refl, e)
   among_map g (a ∷ l) b (inr m) = let p = among_map g l b m in (p.0, inr p.1, p.2)
 
   pub map_among : {B : Type 0} (g : A → B) (l : List A) (a : A) → Among a l → Among (g a) (map g l)
+  map_among {B = B} g [] a m = elim m [ ]
   map_among g (b ∷ l) a (inl e) = inl (ap g e)
   map_among g (b ∷ l) a (inr m) = inr (map_among g l a m)
 
@@ -62,6 +65,7 @@ module _ {A : Type 0} where
   among_append (b ∷ l) k a (inr m) = ⊎_elim (λ n. inl (inr n)) (λ n. inr n) (among_append l k a m)
 
   pub append_among : (l k : List A) (a : A) → Among a l ⊎ Among a k → Among a (l ++ k)
+  append_among [] k a (inl m) = elim m [ ]
   append_among [] k a (inr m) = m
   append_among (b ∷ l) k a (inl (inl e)) = inl e
   append_among (b ∷ l) k a (inl (inr m)) = inr (append_among l k a (inl m))
@@ -76,6 +80,7 @@ module _ {A : Type 0} where
       go false k = k
 
   pub among_keep : (test : A → Bool) (l : List A) (a : A) → Among a (keep test l) → Among a l × (test a ≡ true)
+  among_keep test [] a m = elim m [ ]
   among_keep test (b ∷ l) a m = go (test b) refl (λ k. among_keep test l a k) m
     where
       go : (t : Bool) → test b ≡ t → (Among a (keep test l) → Among a l × (test a ≡ true))
@@ -85,6 +90,7 @@ module _ {A : Type 0} where
       go false e ih k = (inr (ih k).0, (ih k).1)
 
   pub keep_among : (test : A → Bool) (l : List A) (a : A) → Among a l → test a ≡ true → Among a (keep test l)
+  keep_among test [] a m e = elim m [ ]
   keep_among test (b ∷ l) a (inl f) e = rw (subst (λ (x : A). test x ≡ true) f e) (inl f)
   keep_among test (b ∷ l) a (inr m) e = go (test b) (keep_among test l a m e)
     where
@@ -120,6 +126,7 @@ module _ {A : Type 0} where
       (p.0, any_false test l p.1)
 
   pub any_among : (test : A → Bool) (l : List A) (a : A) → Among a l → test a ≡ true → any test l ≡ true
+  any_among test [] a m e = elim m [ ]
   any_among test (b ∷ l) a (inl f) e = rw (subst (λ (x : A). test x ≡ true) f e)
   any_among test (b ∷ l) a (inr m) e = rw (any_among test l a m e) (or_right (test b))
 
@@ -133,6 +140,7 @@ module _ {A : Type 0} where
       go (inr f) ih = let p = ih f in (p.0, inr p.1, p.2)
 
   pub count_among : (test : A → Bool) (l : List A) (a : A) → Among a l → test a ≡ true → 1 ≤ count test l
+  count_among test [] a m e = elim m [ ]
   count_among test (b ∷ l) a (inl f) e = rw (subst (λ (x : A). test x ≡ true) f e) (omega arith)
   count_among test (b ∷ l) a (inr m) e = omega (arith, count_among test l a m e)
 
@@ -159,6 +167,7 @@ module _ {A : Type 0} where
   -- of those that pass, at most one is there: two of them are the same
   pub only_one : (test : A → Bool) (l : List A) → count test l ≤ 1 → (a b : A) → Among a l → Among b l → test a ≡ true → test b ≡ true
       → a ≡ b
+  only_one test [] h a b m _ p q = elim m [ ]
   only_one test (c ∷ l) h a b (inl e) (inl f) p q = e ∙ sym f
   only_one test (c ∷ l) h a b (inl e) (inr n) p q =
       let t : test c ≡ true = subst (λ (x : A). test x ≡ true) e p in
@@ -280,6 +289,7 @@ module _ {A : Type 0} where
   sum_both f g (a ∷ l) = omega (arith, sum_both f g l)
 
   pub sum_among : (f : A → ℕ) (l : List A) (a : A) → Among a l → f a ≤ sum f l
+  sum_among f [] a m = elim m [ ]
   sum_among f (b ∷ l) a (inl e) = rw e (omega arith)
   sum_among f (b ∷ l) a (inr m) = omega (arith, sum_among f l a m)
 
@@ -302,6 +312,7 @@ module _ {A : Type 0} where
 
   pub count_less : (f g : A → Bool) → ((a : A) → g a ≡ true → f a ≡ true) → (l : List A) (a : A) → Among a l → f a ≡ true → g a ≡ false
       → count g l < count f l
+  count_less f g h [] a m p q = elim m [ ]
   count_less f g h (b ∷ l) a (inl e) p q =
       rw (subst (λ (x : A). f x ≡ true) e p, subst (λ (x : A). g x ≡ false) e q) (omega (arith, count-fewer f g h l))
   count_less f g h (b ∷ l) a (inr m) p q = go (g b) refl (count_less f g h l a m p q)

@@ -71,11 +71,13 @@ not-out period e = let p = range-says period e in ⊎_elim (λ h. omega (arith, 
 -- in any list of rows
 
 lower : (n m : ℕ) (l : List ℕ) → Higher n m l → Among m l
+lower n m [] x' = elim x' [ ]
 lower n m (a ∷ l) (inl p) = inr p.1
 lower n m (a ∷ l) (inr h) = inr (lower n m l h)
 
 -- of two one is above the other
 either : (n m : ℕ) (l : List ℕ) → Among n l → Among m l → (n ≡ m) ⊎ Higher n m l ⊎ Higher m n l
+either n m [] x'' _ = elim x'' [ ]
 either n m (a ∷ l) (inl e) (inl f) = inl (e ∙ sym f)
 either n m (a ∷ l) (inl e) (inr j) = inr (inl (inl (e, j)))
 either n m (a ∷ l) (inr i) (inl f) = inr (inr (inl (f, i)))
@@ -92,6 +94,7 @@ twice n a l e i =
 
 -- .. and only one of them, where neither stands twice
 not_both : (n m : ℕ) (l : List ℕ) → Higher n m l → Higher m n l → (2 ≤ often n l) ⊎ (2 ≤ often m l)
+not_both n m [] x'' _ = elim x'' [ ]
 not_both n m (a ∷ l) (inl p) (inl q) = inl (twice n a l p.0 q.1)
 not_both n m (a ∷ l) (inl p) (inr k) = inl (twice n a l p.0 (lower m n l k))
 not_both n m (a ∷ l) (inr h) (inl q) = inr (twice m a l q.0 (lower n m l h))

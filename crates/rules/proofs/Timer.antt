@@ -52,6 +52,8 @@ all_append P [] k h = (tt, h)
 all_append P (a ∷ l) k h = ((h.0, (all_append P l k h.1).0), (all_append P l k h.1).1)
 
 among_times : (o : Option ℕ) (t : ℕ) → Among t (times o) → o ≡ some t
+among_times none t m = elim m [ ]
+among_times (some u) t (inr m) = elim m [ ]
 among_times (some u) t (inl e) = rw e
 
 times_among : (o : Option ℕ) (t : ℕ) → o ≡ some t → Among t (times o)
@@ -85,6 +87,7 @@ pub next-none : (v : Vcpu) → next v ≡ none → (u : ℕ) → Comes v u → �
 next-none v e u k = subst (λ (l : List ℕ). Among u l) (earliest-none (comes v) e) (is_coming v u k)
 
 among_nexts : (l : List Vcpu) (t : ℕ) → Among t (nexts l) → (w : Vcpu) × Among w l × Comes w t
+among_nexts [] t m = elim m [ ]
 among_nexts (v ∷ l) t m = go (among_append (times (next v)) (nexts l) t m) (λ k. among_nexts l t k)
   where
     go : Among t (times (next v)) ⊎ Among t (nexts l) → (Among t (nexts l) → (w : Vcpu) × Among w l × Comes w t)

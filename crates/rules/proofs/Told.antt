@@ -28,6 +28,7 @@ use Rattle.rules.proofs.Budgets.{Marked, known}
 -- what is reported of `u`, after the charge, is found by its identifier
 pub told_of : (now : ℕ) (us : List Vcpu) → ((t : ℕ) → count (named t) us ≤ 1) → (u : Vcpu) → Among u us → (w : Vcpu)
     → w.terms.tunnel ≡ u.terms.tunnel → time_told (tell now us) w ≡ next (returned now u)
+told_of now [] once u m w e = elim m [ ]
 told_of now (x ∷ us) once u m w e = go (named x.terms.tunnel w) refl m (λ k. told_of now us (λ t. omega (arith, once t)) u k w e)
   where
     go : (b : Bool) → named x.terms.tunnel w ≡ b → Among u (x ∷ us) → (Among u us → time_told (tell now us) w ≡ next (returned now u))

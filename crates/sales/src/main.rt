@@ -1,5 +1,7 @@
 // For the people who sell: a question and the old tool's sheet from standard input, and to standard output what the sizing
 // half answers for the sheet's tasks, in both forms. One run, one sheet.
+#![tactic(auto)]
+
 ghost use Rattle.std.specs.Prelude.{suc, ◌+◌, ◌≤◌, ◌<◌, ◌≡◌, cond, ◌||◌, [], ◌∷◌, ◌++◌, ◌⊎◌, ltb, eqb, length, take, drop};
 ghost use Rattle.reads.specs.declared.Standing.TheVariants.{GoesOn, WriteFailed};
 ghost use Rattle.reads.specs.Reads.{Bytes, to_serve, last_bytes};
@@ -12,10 +14,10 @@ ghost use Rattle.sheets.specs.Paper.{work_of, text_of, paper_read, ValidSheet, V
 ghost use Rattle.sales.specs.Sales.{aligned, task_fields, named, both_forms, wanted as wantedOf, given as givenIn, is_asked, unasked, to_sizing, to_sheet, answered as answer_of, answer_to};
 ghost use Rattle.sales.specs.Program.{ended, round_of, program};
 
-use libc::{STDERR_FILENO, STDIN_FILENO, STDOUT_FILENO};
 use queries::LONGEST_ANSWER;
 use reads::Standing;
 use sheets::{Lines, Reading, Sheet, Writing};
+use std::io::{Read, Write};
 use text::{is_same, put_end, put_field, put_text};
 
 // No input has more bytes; a longer one is answered that it is bad.
@@ -30,7 +32,7 @@ const QUESTION: usize = 8;
 const BAD_LINE: u64 = 37;
 
 // How many bytes are held, how many bytes of an answer were handed on to be written, and how the program stands.
-#[derive(Drop)]
+#[derive(Clone, Copy)]
 struct Round {
     held: usize,
     served: usize,
@@ -38,10 +40,10 @@ struct Round {
 }
 
 // `sizing` has its own: a library's function has to promise its result, and no contract says whether a write works.
-fn is_written(answers: &[u8]) -> bool {
-    let ok = io::write_all(STDOUT_FILENO, answers);
+fn is_written<W: Write, E: Write>(output: &mut W, errors: &mut E, answers: &[u8]) -> bool {
+    let ok = reads::write_all(output, answers);
     if !ok {
-        io::write_all(STDERR_FILENO, b"sales: a write failed\n");
+        reads::write_all(errors, b"sales: a write failed\n");
     }
     ok
 }
@@ -50,7 +52,7 @@ fn is_written(answers: &[u8]) -> bool {
 fn line_end(input: &[u8]) -> usize
     ensures { result ≡ length (until 10 input.now) }
 {
-    bytes::scan::find(input, 0, input.len(), b'\n')
+    queries::find(input, 0, b'\n')
 }
 
 // Where the sheet begins, behind the newline; the end where there is none.
@@ -178,7 +180,7 @@ fn given(question: &[u8]) -> usize
 fn word_end(question: &[u8]) -> usize
     ensures { result ≡ length (until 32 question.now) }
 {
-    bytes::scan::find(question, 0, question.len(), b' ')
+    queries::find(question, 0, b' ')
 }
 
 // The first field that is missing, or one too many.
@@ -282,13 +284,13 @@ fn answer_to(input: &[u8], out: &mut [u8]) -> usize
 }
 
 // Answers the input, which has ended or is too long, and tells how the program stands then.
-fn served(input: &[u8], out: &mut [u8]) -> Round
+fn served<W: Write, E: Write>(output: &mut W, errors: &mut E, input: &[u8], out: &mut [u8]) -> Round
     requires { 1024 ≤ length out.old }
     ensures { ((result.standing ≡ WriteFailed) ⊎ (result ≡ ended input.now)) × (take result.served out.new ≡ answer_to input.now) }
 {
     let held = input.len();
     let served = answer_to(input, out);
-    let ok = is_written(&out[..served]);
+    let ok = is_written(output, errors, &out[..served]);
     if !ok {
         return Round {
             held,
@@ -323,13 +325,20 @@ fn is_over(n: usize, end: usize) -> bool
 
 // What a read left behind the bytes held, where it answered `got`. There is room behind them, so that no byte read means
 // the end of the input.
-fn one_round(input: &[u8], held: usize, got: isize, out: &mut [u8]) -> Round
+fn one_round<W: Write, E: Write>(
+    output: &mut W,
+    errors: &mut E,
+    input: &[u8],
+    held: usize,
+    got: isize,
+    out: &mut [u8],
+) -> Round
     requires { (held < length input.now) × (1024 ≤ length out.old) }
     ensures input_value { (result.standing ≡ GoesOn → take result.held input.now ≡ last_bytes result.held (to_serve input.now held got)) × Bytes input.now }
     ensures fact { (result.standing ≡ WriteFailed) ⊎ (result ≡ round_of held (to_serve input.now held got) got) }
 {
     if got < 0 {
-        io::write_all(STDERR_FILENO, b"sales: a read failed\n");
+        reads::write_all(errors, b"sales: a read failed\n");
         return Round {
             held,
             served: 0,
@@ -340,7 +349,7 @@ fn one_round(input: &[u8], held: usize, got: isize, out: &mut [u8]) -> Round
     let end = held + n;
     let over = is_over(n, end);
     if over {
-        return served(&input[..end], out);
+        return served(output, errors, &input[..end], out);
     }
     Round {
         held: end,
@@ -350,7 +359,7 @@ fn one_round(input: &[u8], held: usize, got: isize, out: &mut [u8]) -> Round
 }
 
 // Reads until the input has ended or there is another reason to end, and hands it back with what was served.
-fn run() -> Round
+fn run<R: Read, W: Write, E: Write>(from: &mut R, output: &mut W, errors: &mut E) -> Round
     ensures { Ran program result }
 {
     let mut input = io::large_buffer();
@@ -363,8 +372,8 @@ fn run() -> Round
     loop {
         let held = r.held;
         let part = &mut input[held..];
-        let got = libc::read(STDIN_FILENO, part);
-        r = one_round(&input, held, got, &mut out);
+        let got = reads::read_part(from, part);
+        r = one_round(output, errors, &input, held, got, &mut out);
         let standing = r.standing;
         let Standing::GoesOn = standing else {
             return r;
@@ -372,6 +381,6 @@ fn run() -> Round
     }
 }
 
-fn main() {
-    run();
+fn main(rt: HostRuntime) {
+    run(&mut rt.stdin(), &mut rt.stdout(), &mut rt.stderr());
 }

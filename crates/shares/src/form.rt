@@ -6,7 +6,7 @@ ghost use Rattle.shares.specs.Private.{Rising, gaps_of, share_row};
 
 // Aligned is for tasks released at starts of a resource period, which no list can say: it is the caller's to
 // know. Supply then begins a gap earlier.
-#[derive(Drop)]
+#[derive(Clone, Copy)]
 pub enum Form {
     Ordinary,
     Aligned,

@@ -3,6 +3,8 @@
 // Every rule is document 01's, "Supply, demand, least share" and rows 30 to 35, or document 02's, No. 13 and
 // row 36, as crate `model` defines them; it depends on nothing of the scheduler. Task lists are two lent
 // slices, periods and costs, only read.
+#![tactic(auto)]
+
 mod answers;
 mod calls;
 mod curve;

@@ -2,14 +2,14 @@
 use shares::Refusal;
 
 // Whether every line is good, and if not which is the first bad one.
-#[derive(Drop)]
+#[derive(Clone, Copy)]
 pub enum Lines {
     Good,
     No(Refusal),
 }
 
 // How many bytes were put, or that there is no room for them.
-#[derive(Drop)]
+#[derive(Clone, Copy)]
 pub enum Writing {
     Put(usize),
     No(Refusal),

@@ -59,7 +59,7 @@ fn value(s: &[u8], from: usize, end: usize) -> u32
 }
 
 // A number and the place behind it.
-#[derive(Drop)]
+#[derive(Clone, Copy)]
 pub(crate) enum Number {
     Is(u32, usize),
     None,

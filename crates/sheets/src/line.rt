@@ -15,7 +15,7 @@ fn is_at(s: &[u8], at: usize, byte: u8) -> bool
 }
 
 // A period, a cost and the place behind their line.
-#[derive(Drop)]
+#[derive(Clone, Copy)]
 pub(crate) enum Line {
     Task(u32, u32, usize),
     Bad,

@@ -21,7 +21,7 @@ const BAD_LINE: u32 = 37;
 const NO_ROOM: u32 = 40;
 
 // The tasks that were read: the first `count` of both arrays, and zeros behind them. Reading alone makes one.
-#[derive(Drop)]
+#[derive(Clone, Copy)]
 pub struct Sheet {
     count: usize,
     periods: [u32; MOST_LINES],
@@ -29,7 +29,7 @@ pub struct Sheet {
 }
 
 // The sheet, where every line is good; else the first bad line, and a sheet of none.
-#[derive(Drop)]
+#[derive(Clone, Copy)]
 pub struct Reading {
     pub lines: Lines,
     pub sheet: Sheet,

@@ -1,5 +1,7 @@
 // Sizes shares: queries from standard input, one a line, answers to standard output. The answer to each
 // line that has come is written before more input is waited for.
+#![tactic(auto)]
+
 ghost use Rattle.std.specs.Prelude.{◌+◌, ◌^◌, ◌≤◌, ◌<◌, ◌≡◌, cond, ◌||◌, ◌⊎◌, ltb, eqb, length, take, drop, set};
 ghost use Rattle.reads.specs.declared.Standing.TheVariants.{GoesOn, WriteFailed};
 ghost use Rattle.reads.specs.Reads.{Bytes, to_serve, last_bytes};
@@ -9,13 +11,13 @@ ghost use Rattle.queries.specs.Meaning.{until};
 ghost use Rattle.sizing.specs.Program.{line_answer, served_part, round_of, program};
 ghost use Rattle.sizing.specs.Goes.{Went};
 
-use libc::{STDERR_FILENO, STDIN_FILENO, STDOUT_FILENO};
 use queries::{LONGEST_ANSWER, LONGEST_LINE};
 use reads::Standing;
+use std::io::{Read, Write};
 
 // Whether the line that has begun is too long already and is let go as it comes, how many bytes are used, how many wait
 // for the rest of their line, and how the program stands.
-#[derive(Drop)]
+#[derive(Clone, Copy)]
 struct Round {
     long: bool,
     offset: u64,
@@ -25,7 +27,7 @@ struct Round {
 
 // What a go served: the same of its line, how many bytes of its part are used, how many bytes of answers stand in front of
 // its room, and whether it ended because that is full.
-#[derive(Drop)]
+#[derive(Clone, Copy)]
 struct Go {
     long: bool,
     used: usize,
@@ -34,10 +36,10 @@ struct Go {
 }
 
 // `card` has its own: a library's function has to promise its result, and no contract says whether a write works.
-fn is_written(answers: &[u8]) -> bool {
-    let ok = io::write_all(STDOUT_FILENO, answers);
+fn is_written<W: Write, E: Write>(output: &mut W, errors: &mut E, answers: &[u8]) -> bool {
+    let ok = reads::write_all(output, answers);
     if !ok {
-        io::write_all(STDERR_FILENO, b"sizing: a write failed\n");
+        reads::write_all(errors, b"sizing: a write failed\n");
     }
     ok
 }
@@ -66,7 +68,7 @@ fn line_end(part: &[u8], from: usize) -> usize
     requires { from ≤ length part.now }
     ensures { result ≡ from + length (until 10 (drop from part.now)) }
 {
-    bytes::scan::find(part, from, part.len(), b'\n')
+    queries::find(part, from, b'\n')
 }
 
 // Answers the lines of the part that have ended, until there is no room for a longest answer.
@@ -111,7 +113,15 @@ fn answers(begun: bool, part: &[u8], out: &mut [u8]) -> Go
 }
 
 // Writes the answers to the lines of the part that have ended, in as many goes as the room for answers asks for.
-fn answered(begun: bool, offset: u64, part: &[u8], last: bool, out: &mut [u8]) -> Round
+fn answered<W: Write, E: Write>(
+    output: &mut W,
+    errors: &mut E,
+    begun: bool,
+    offset: u64,
+    part: &[u8],
+    last: bool,
+    out: &mut [u8],
+) -> Round
     requires { (longest ≤ length out.old) × (offset + length part.now < 2 ^ 64) }
     ensures held_in_bounds { result.held ≤ length part.now }
     ensures fact { (result.standing ≡ WriteFailed) ⊎ (result ≡ served_part begun offset part.now last) }
@@ -122,7 +132,7 @@ fn answered(begun: bool, offset: u64, part: &[u8], last: bool, out: &mut [u8]) -
         let go = answers(long, &part[used..], out);
         long = go.long;
         used += go.used;
-        let ok = is_written(&out[..go.written]);
+        let ok = is_written(output, errors, &out[..go.written]);
         if !ok || !go.full {
             let offset = offset + used as u64;
             let held = part.len() - used;
@@ -153,7 +163,9 @@ fn end_of(input: &mut [u8], held: usize, n: usize) -> usize
 
 // Serves what a read left behind the bytes that waited, where it answered `got`. There is room behind them, so that no
 // byte read means the end of the input. What waits then stands in front.
-fn one_round(
+fn one_round<W: Write, E: Write>(
+    output: &mut W,
+    errors: &mut E,
     long: bool,
     offset: u64,
     input: &mut [u8],
@@ -166,7 +178,7 @@ fn one_round(
     ensures fact { (result.standing ≡ WriteFailed) ⊎ (result ≡ round_of long offset held (to_serve input.old held got) got) }
 {
     if got < 0 {
-        io::write_all(STDERR_FILENO, b"sizing: a read failed\n");
+        reads::write_all(errors, b"sizing: a read failed\n");
         return Round {
             long,
             offset,
@@ -177,14 +189,14 @@ fn one_round(
     let n = io::count(got, &input[held..]);
     let last = n == 0;
     let end = end_of(input, held, n);
-    let r = answered(long, offset, &input[..end], last, out);
+    let r = answered(output, errors, long, offset, &input[..end], last, out);
     let from = end - r.held;
     reads::move_rest(input, from, end);
     r
 }
 
 // Reads and serves until there is a reason to end, and hands it back with what was served.
-fn run() -> Round
+fn run<R: Read, W: Write, E: Write>(from: &mut R, output: &mut W, errors: &mut E) -> Round
     ensures { Ran program result }
 {
     let mut input = io::large_buffer();
@@ -198,8 +210,10 @@ fn run() -> Round
     loop {
         let held = r.held;
         let part = &mut input[held..];
-        let got = libc::read(STDIN_FILENO, part);
-        r = one_round(r.long, r.offset, &mut input, held, got, &mut out);
+        let got = reads::read_part(from, part);
+        r = one_round(
+            output, errors, r.long, r.offset, &mut input, held, got, &mut out,
+        );
         let standing = r.standing;
         let Standing::GoesOn = standing else {
             return r;
@@ -207,6 +221,6 @@ fn run() -> Round
     }
 }
 
-fn main() {
-    run();
+fn main(rt: HostRuntime) {
+    run(&mut rt.stdin(), &mut rt.stdout(), &mut rt.stderr());
 }

@@ -1,5 +1,7 @@
 // What the lines of the programs are made of: a text, a number in decimal behind a space, and the newline at the end; and whether
 // bytes are those of a word.
+#![tactic(auto)]
+
 ghost use Rattle.std.specs.Prelude.{◌+◌, ◌≤◌, ◌<◌, ◌≡◌, length};
 ghost use Rattle.text.specs.Text.{decimal, same, field_in, end_in, text_in, Put};
 

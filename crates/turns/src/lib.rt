@@ -1,4 +1,6 @@
 // The scheduler of one core: timed calls go in, the VCPU to run, its usable ticks, the timer and the ticks that came back come out.
+#![tactic(auto)]
+
 mod judge;
 mod remember;
 mod steps;
@@ -42,7 +44,7 @@ const NOWHERE: usize = MOST_VCPUS;
 const LAST_PLACE: usize = MOST_VCPUS - 1;
 
 // The whole VCPU description that an admit carries; the kind is the byte that was asked for, since an unknown one is refused.
-#[derive(Drop)]
+#[derive(Clone, Copy)]
 pub struct Description {
     pub tunnel: Tunnel,
     pub period: Amount,
@@ -52,7 +54,7 @@ pub struct Description {
 }
 
 // What a call asks for.
-#[derive(Drop)]
+#[derive(Clone, Copy)]
 pub enum Change {
     Admit(Description),
     Wake(Tunnel),
@@ -62,27 +64,27 @@ pub enum Change {
 }
 
 // A row of the table of reply numbers; the detail is a plain number, since its meaning is the row's.
-#[derive(Drop)]
+#[derive(Clone, Copy)]
 pub struct Refusal {
     pub number: u8,
     pub detail: u64,
 }
 
 // Who holds the core.
-#[derive(Drop)]
+#[derive(Clone, Copy)]
 pub enum Holder {
     Idle,
     Vcpu(Tunnel),
 }
 
-#[derive(Drop)]
+#[derive(Clone, Copy)]
 pub enum Timer {
     Unset,
     At(Moment),
 }
 
 // What an accepted call answers; `brought` are the ticks that came back to all VCPUs together.
-#[derive(Drop)]
+#[derive(Clone, Copy)]
 pub struct Report {
     pub time: Moment,
     pub run: Holder,
@@ -91,20 +93,20 @@ pub struct Report {
     pub brought: Amount,
 }
 
-#[derive(Drop)]
+#[derive(Clone, Copy)]
 pub enum Reply {
     Done(Report),
     No(Refusal),
 }
 
-#[derive(Drop)]
+#[derive(Clone, Copy)]
 pub struct Answer {
     pub core: Core,
     pub reply: Reply,
 }
 
 // What a VCPU on the card is: 0, 1 and 2 of document 02.
-#[derive(Drop)]
+#[derive(Clone, Copy)]
 pub enum Kind {
     Sporadic,
     Deferrable,
@@ -114,7 +116,7 @@ pub enum Kind {
 // A VCPU on the card: the first `count` slots hold the pending returns in order, the others a time above all and no ticks. The first
 // slot of a deferrable or polling VCPU, which has no queue, holds its next boundary: `due[0]` is the next time that something comes.
 // `pending` is the sum of the amounts, `held` the ticks held since its admission; no reply depends on them. 136 bytes, 4 of them a gap.
-#[derive(Drop)]
+#[derive(Clone, Copy)]
 pub struct Vcpu {
     pub due: [Moment; 8],
     pub ended: Moment,
@@ -131,7 +133,7 @@ pub struct Vcpu {
 }
 
 // Whether an identifier is on the card, or left it and is remembered, until that time.
-#[derive(Drop)]
+#[derive(Clone, Copy)]
 pub enum Presence {
     OnCard,
     Remembered(Moment),
@@ -139,21 +141,21 @@ pub enum Presence {
 }
 
 // The next boundary, which a sporadic VCPU has not.
-#[derive(Drop)]
+#[derive(Clone, Copy)]
 pub enum Boundary {
     Unset,
     At(Moment),
 }
 
 // An identifier on the card, or none.
-#[derive(Drop)]
+#[derive(Clone, Copy)]
 pub enum Found {
     Nobody,
     Tenant(Tunnel),
 }
 
 // Everything of one VCPU, and its next boundary; where there is none, the record of a vacant place.
-#[derive(Drop)]
+#[derive(Clone, Copy)]
 pub struct Look {
     pub presence: Presence,
     pub vcpu: Vcpu,
@@ -162,7 +164,7 @@ pub struct Look {
 
 // The card: the time of the last accepted call, who runs, the timer, how many VCPUs are on it, how many identifiers it remembers, the ticks
 // that all removed tenants held, and those that nobody held.
-#[derive(Drop)]
+#[derive(Clone, Copy)]
 pub struct Status {
     pub time: Moment,
     pub run: Holder,
@@ -175,7 +177,7 @@ pub struct Status {
 
 // The identifiers remembered: the first `count` slots hold them in the order of their removals, each with its time; the others hold the
 // identifier of nobody and a time above all. It is public because a core is, within which it lies.
-#[derive(Drop)]
+#[derive(Clone, Copy)]
 pub struct Memory {
     until: [Moment; MOST_VCPUS],
     ids: [Tunnel; MOST_VCPUS],
@@ -183,7 +185,7 @@ pub struct Memory {
 }
 
 // The first `n` places are in use, the most urgent first. The order of the fields keeps a copy of the table away.
-#[derive(Drop)]
+#[derive(Clone, Copy)]
 pub struct Core {
     places: [Vcpu; MOST_VCPUS],
     last: Moment,
@@ -197,20 +199,20 @@ pub struct Core {
 }
 
 // What the return step reports of a VCPU: the ticks that it brought, and the next time that something comes to it, or a time above all.
-#[derive(Drop)]
+#[derive(Clone, Copy)]
 struct Told {
     ticks: Amount,
     next: Moment,
 }
 
 // What the reports come to together. A struct of its own, so that a number more to report changes `steps` and not the loop in `turn`.
-#[derive(Drop)]
+#[derive(Clone, Copy)]
 struct AllTold {
     ticks: Amount,
 }
 
 // A VCPU to which something came, and what is reported of it.
-#[derive(Drop)]
+#[derive(Clone, Copy)]
 struct Brought {
     vcpu: Vcpu,
     told: Told,
@@ -218,14 +220,14 @@ struct Brought {
 
 // What a look at the places so far has found: the first ready one, its usable ticks, and the next time that something comes to those
 // before it, or that is its own boundary.
-#[derive(Drop)]
+#[derive(Clone, Copy)]
 struct Pick {
     at: usize,
     usable: Amount,
     soon: Moment,
 }
 
-#[derive(Drop)]
+#[derive(Clone, Copy)]
 enum Verdict {
     Accept,
     Refuse(Refusal),

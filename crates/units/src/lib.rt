@@ -1,6 +1,8 @@
 // Moments in time, amounts of ticks, totals of ticks and tunnel identifiers, kept apart: four types whose numbers are private.
 // Each is made from any number and read out, moments and identifiers are compared; the only arithmetic offered is a moment plus an amount,
 // and a total plus a total.
+#![tactic(auto)]
+
 ghost use Rattle.std.specs.Prelude.{◌≡◌, ltb, eqb};
 ghost use Rattle.units.specs.Units.{moment, amount, tunnel, total, later, together};
 
@@ -8,19 +10,19 @@ ghost use Rattle.units.specs.Units.{moment, amount, tunnel, total, later, togeth
 pub const LAST_MOMENT: u64 = 18446744073709551615;
 
 // A moment in time, in ticks since the card came up.
-#[derive(Drop)]
+#[derive(Clone, Copy)]
 pub struct Moment(u64);
 
 // An amount of ticks.
-#[derive(Drop)]
+#[derive(Clone, Copy)]
 pub struct Amount(u32);
 
 // Ticks counted over a stay, over all removed tenants, or in idle: up to the largest time, which an amount does not hold.
-#[derive(Drop)]
+#[derive(Clone, Copy)]
 pub struct Total(u64);
 
 // A tunnel identifier; all its bits count.
-#[derive(Drop)]
+#[derive(Clone, Copy)]
 pub struct Tunnel(u32);
 
 impl Moment {

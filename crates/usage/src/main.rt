@@ -1,17 +1,19 @@
 // Whose work is this? Event records from standard input, as `card` reads them; where the input ends, or reading is refused, the time, the
 // idle ticks, those of removed tenants, how many tenants are on the card, and a line for each with its totals, by `status`, `first_from`
 // and `look`.
+#![tactic(auto)]
+
 ghost use Rattle.std.specs.Prelude.{◌≤◌, length};
 ghost use Rattle.turns.specs.State.{ValidCore};
 
-use libc::{STDERR_FILENO, STDIN_FILENO, STDOUT_FILENO};
 use reads::Standing;
+use std::io::{Read, Write};
 use turns::{Core, Found, Refusal};
 use units::Tunnel;
 
 // The core, the offset of the first byte that waits for the rest of its record, how many wait, how the reading stands and, where it is
 // refused, with which refusal.
-#[derive(Drop)]
+#[derive(Clone, Copy)]
 struct Round {
     core: Core,
     offset: u64,
@@ -88,15 +90,15 @@ fn one_round(core: Core, offset: u64, input: &mut [u8], held: usize, got: isize)
 }
 
 // Reads once behind the bytes that wait.
-fn read_behind(input: &mut [u8], held: usize) -> isize
+fn read_behind<R: Read>(from: &mut R, input: &mut [u8], held: usize) -> isize
     requires { held ≤ length input.old }
 {
     let part = &mut input[held..];
-    libc::read(STDIN_FILENO, part)
+    reads::read_part(from, part)
 }
 
 // A proved loop has to end, and nothing says that the input does. So the loop counts its rounds down from a number that no run uses up.
-fn run() -> Round
+fn run<R: Read>(from: &mut R) -> Round
     ensures { ValidCore result.core }
 {
     let mut input = io::large_buffer();
@@ -113,7 +115,7 @@ fn run() -> Round
     let mut rounds = u64::MAX;
     while rounds > 0 {
         let held = r.held;
-        let got = read_behind(&mut input, held);
+        let got = read_behind(from, &mut input, held);
         r = one_round(r.core, r.offset, &mut input, held, got);
         let standing = r.standing;
         let Standing::GoesOn = standing else {
@@ -124,39 +126,39 @@ fn run() -> Round
     r
 }
 
-fn is_said(word: &[u8], n: u64) -> bool {
-    let ok = io::write_all(STDOUT_FILENO, word);
+fn is_said<W: Write>(output: &mut W, word: &[u8], n: u64) -> bool {
+    let ok = reads::write_all(output, word);
     if !ok {
         return false;
     }
-    io::print_decimal(STDOUT_FILENO, n)
+    reads::write_number(output, n)
 }
 
 // The totals beside the tenants, the time first; and how many tenants follow, so that a reader sees where the rest was cut off.
-fn is_headed(core: Core) -> bool
+fn is_headed<W: Write>(output: &mut W, core: Core) -> bool
     requires { ValidCore core }
 {
     let s = core.status();
     let time = s.time;
     let idle = s.idle;
     let removed = s.removed;
-    if !is_said(b"time ", time.ticks()) {
+    if !is_said(output, b"time ", time.ticks()) {
         return false;
     }
-    if !is_said(b"\nidle ", idle.ticks()) {
+    if !is_said(output, b"\nidle ", idle.ticks()) {
         return false;
     }
-    if !is_said(b"\nremoved ", removed.ticks()) {
+    if !is_said(output, b"\nremoved ", removed.ticks()) {
         return false;
     }
-    if !is_said(b"\ntenants ", s.vcpus as u64) {
+    if !is_said(output, b"\ntenants ", s.vcpus as u64) {
         return false;
     }
-    io::write_all(STDOUT_FILENO, b"\n")
+    reads::write_all(output, b"\n")
 }
 
 // A tenant's line.
-fn is_listed(core: Core, id: Tunnel) -> bool
+fn is_listed<W: Write>(output: &mut W, core: Core, id: Tunnel) -> bool
     requires { ValidCore core }
 {
     let l = core.look(id);
@@ -164,23 +166,23 @@ fn is_listed(core: Core, id: Tunnel) -> bool
     let held = v.held;
     let pending = v.pending;
     let usable = v.usable;
-    if !is_said(b"tenant ", id.number() as u64) {
+    if !is_said(output, b"tenant ", id.number() as u64) {
         return false;
     }
-    if !is_said(b" held ", held.ticks()) {
+    if !is_said(output, b" held ", held.ticks()) {
         return false;
     }
-    if !is_said(b" pending ", pending.ticks() as u64) {
+    if !is_said(output, b" pending ", pending.ticks() as u64) {
         return false;
     }
-    if !is_said(b" usable ", usable.ticks() as u64) {
+    if !is_said(output, b" usable ", usable.ticks() as u64) {
         return false;
     }
-    io::write_all(STDOUT_FILENO, b"\n")
+    reads::write_all(output, b"\n")
 }
 
 // All of them, in rising order. There are never more than 32.
-fn are_listed(core: Core) -> bool
+fn are_listed<W: Write>(output: &mut W, core: Core) -> bool
     requires { ValidCore core }
 {
     let mut low = Tunnel::new(0);
@@ -190,7 +192,7 @@ fn are_listed(core: Core) -> bool
         let Found::Tenant(id) = found else {
             return true;
         };
-        if !is_listed(core, id) {
+        if !is_listed(output, core, id) {
             return false;
         }
         low = after(id);
@@ -208,43 +210,43 @@ fn after(id: Tunnel) -> Tunnel {
 }
 
 // What ended the reading, as `card` writes it.
-fn is_refused(refusal: Refusal) -> bool {
-    if !is_said(b"no ", refusal.number as u64) {
+fn is_refused<W: Write>(output: &mut W, refusal: Refusal) -> bool {
+    if !is_said(output, b"no ", refusal.number as u64) {
         return false;
     }
-    if !is_said(b" ", refusal.detail) {
+    if !is_said(output, b" ", refusal.detail) {
         return false;
     }
-    io::write_all(STDOUT_FILENO, b"\n")
+    reads::write_all(output, b"\n")
 }
 
-fn is_told(r: Round) -> bool
+fn is_told<W: Write>(output: &mut W, r: Round) -> bool
     requires { ValidCore r.core }
 {
     let core = r.core;
-    if !is_headed(core) {
+    if !is_headed(output, core) {
         return false;
     }
-    if !are_listed(core) {
+    if !are_listed(output, core) {
         return false;
     }
     let standing = r.standing;
     let Standing::Refused = standing else {
         return true;
     };
-    is_refused(r.refusal)
+    is_refused(output, r.refusal)
 }
 
-fn main() {
-    let r = run();
+fn main(rt: HostRuntime) {
+    let r = run(&mut rt.stdin());
     let standing = r.standing;
     match standing {
         Standing::ReadFailed => {
-            io::write_all(STDERR_FILENO, b"usage: a read failed\n");
+            reads::write_all(&mut rt.stderr(), b"usage: a read failed\n");
         }
         _ => {
-            if !is_told(r) {
-                io::write_all(STDERR_FILENO, b"usage: a write failed\n");
+            if !is_told(&mut rt.stdout(), r) {
+                reads::write_all(&mut rt.stderr(), b"usage: a write failed\n");
             }
         }
     }

@@ -1,0 +1,14 @@
+-- `put_holder` puts who runs, or a dash for idle. Assumes nothing.
+use mathlib.Core.Path.{sym}
+use native.Mathlib.Omega.{arith}
+use Rattle.text.proofs.Writing.{field_put}
+use Rattle.lines.proofs.line.put_holder.Goals as goal
+
+pub returns-in_default : goal.returns-in_default
+returns-in_default c = rw c.in_default.is c.put_none.ensures
+
+pub returns : goal.returns
+returns c =
+    let a = c.args in
+    rw (c.in-Vcpu.is, sym c.number.ensures)
+    (field_put a.out.now a.at _ (omega arith) c.put_field.ensures)

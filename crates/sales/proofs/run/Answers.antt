@@ -1,0 +1,114 @@
+use Prim.Native.Nat.{ℕ, ◌+◌, ◌<◌}
+use mathlib.Core.Path.{◌≡◌, refl, sym, ◌∙◌}
+use mathlib.Core.List.{List}
+use native.Mathlib.Omega.{arith}
+use lib.IntN.{ℤ}
+use lib.ListN.{length}
+use mir.Syntax.{w64}
+use mir.Val.{SFits, to_z, of_z}
+use borrow.Author.Rules.{rules}
+use mir.ValLaws.{to_z-of_z}
+use Rattle.reads.specs.declared.Standing.TheVariants.{GoesOn}
+use Rattle.reads.specs.Program.{Ran}
+use Rattle.reads.proofs.Rounds.{filled, filled-size}
+use Rattle.reads.proofs.Runs.{under-start, under_so_far, read_step}
+use Rattle.sales.specs.declared.Round.{Round}
+use Rattle.sales.specs.Program.{program}
+use Rattle.sales.proofs.Rounds.{laws}
+use Rattle.sales.proofs.run.Invariants.{UnderWay}
+use Rattle.sales.proofs.run.Goals as goal
+use Rattle.sales.proofs.run.Goals.{After-one_round-r, After-read_part-got, At-loop-r}
+use Rattle.sales.proofs.run.Given as given
+
+-- the points of the program: the top of the loop, its read, and its round
+abbrev top : (g : given.Over) → After-read_part-got g → At-loop-r g
+top g c = (goal.at.After-read_part-got g c).At-loop-r
+
+abbrev lent : (g : given.Over) → After-one_round-r g → After-read_part-got g
+lent g c = (goal.at.After-one_round-r g c).After-read_part-got
+
+held_small : (g : given.Over) → (c : At-loop-r g) → c.loop-r.r.held < 65536
+held_small g c =
+    let l = c.loop-r in
+    let f = under_so_far laws l.r l.input l.invariant.2 in
+    omega (arith, f.held-is, f.few)
+
+-- the buffer as the read left it
+abbrev buffer : (g : given.Over) → After-read_part-got g → List ℕ
+buffer g c = filled 65536 (top g c).loop-r.r.held (top g c).loop-r.input c.read_part-got.new.part
+
+buffer-size : (g : given.Over) → (c : After-read_part-got g) → 65536 ≡ length (buffer g c)
+buffer-size g c =
+    let l = (top g c).loop-r in
+    filled-size 65536 l.r.held l.input c.read_part-got.new.part (omega (arith, held_small g (top g c))) l.invariant.0 c.read_part-got.auto.part
+
+-- what the round was told of the read's answer
+abbrev answer : (g : given.Over) → After-read_part-got g → ℤ
+answer g c = to_z w64 (of_z w64 c.read_part-got.result)
+
+-- what a round begins with and leaves
+abbrev began : (g : given.Over) → After-one_round-r g → Round
+began g o = (top g (lent g o)).loop-r.r
+
+abbrev left : (g : given.Over) → After-one_round-r g → Round
+left g o = o.one_round-r.result
+
+abbrev after : (g : given.Over) → After-one_round-r g → List ℕ
+after g o = buffer g (lent g o)
+
+step : (g : given.Over) → (o : After-one_round-r g)
+    → (((left g o).standing ≡ GoesOn → ⊥) → Ran program (left g o))
+    × ((left g o).standing ≡ GoesOn → (0 + (began g o).held < 0 + (left g o).held) × UnderWay (left g o) (after g o))
+step g o =
+    let c = lent g o in
+    let l = (top g c).loop-r in
+    let small = held_small g (top g c) in
+    let fits : SFits w64 c.read_part-got.result = search rules in
+    let bits = to_z-of_z w64 c.read_part-got.result fits in
+    read_step laws 65536 (began g o) (left g o) l.input c.read_part-got.new.part (after g o) c.read_part-got.result (answer g c) l.invariant.2
+    (omega (arith, small)) l.invariant.0 c.read_part-got.auto.part bits c.read_part-got.ensures.room o.one_round-r.ensures.input_value.1 o.one_round-r.ensures.fact o.one_round-r.ensures.input_value.0
+
+pub loop-r-init : goal.loop-r-init
+loop-r-init g c =
+    let first = c.large_buffer-input in
+    let under = under-start laws (record { held = 0; served = 0; standing = GoesOn }) first.result refl in
+    (first.ensures, c.buffer-out.ensures, under)
+
+pub slice_bounds-part-count : goal.slice_bounds-part-count
+slice_bounds-part-count g c = omega (
+  arith,
+  (let here : c.loop-r.r.held < 65536 = let l = c.loop-r in
+      let f = under_so_far laws l.r l.input l.invariant.2 in
+      omega (arith, f.held-is, f.few) in here),
+)
+
+pub slice_bounds-input-start : goal.slice_bounds-input-start
+slice_bounds-input-start g c = omega (arith, held_small g c)
+
+pub slice_bounds-one_round-end : goal.slice_bounds-one_round-end
+slice_bounds-one_round-end g c = buffer-size g (goal.at.slice_bounds-one_round-end g c).After-read_part-got
+
+pub one_round-r-requires : goal.one_round-r-requires
+one_round-r-requires g c =
+    let m = (goal.at.one_round-r-requires g c).After-read_part-got in
+    (omega (arith, held_small g (top g m), buffer-size g m), omega (arith, (top g m).loop-r.invariant.1))
+
+pub loop-r-smaller : goal.loop-r-smaller
+loop-r-smaller g c =
+    let o = (goal.at.loop-r-smaller g c).After-one_round-r in
+    let l = (top g (lent g o)).loop-r in
+    omega (arith, ((step g o).1 c.in-GoesOn.is).0, (under_so_far laws l.r l.input l.invariant.2).few, held_small g (top g (lent g o)))
+
+pub loop-r-preserved : goal.loop-r-preserved
+loop-r-preserved g c =
+    let o = (goal.at.loop-r-preserved g c).After-one_round-r in
+    let k = o.one_round-r.auto in (
+      buffer-size g (lent g o),
+      (top g (lent g o)).loop-r.invariant.1 ∙ sym k.out,
+      ((step g o).1 c.in-GoesOn.is).1,
+    )
+
+pub returns-in_default : goal.returns-in_default
+returns-in_default g c =
+    let o = (goal.at.returns-in_default g c).After-one_round-r in
+    (step g o).0 c.in_default.not-GoesOn

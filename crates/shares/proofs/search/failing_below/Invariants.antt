@@ -1,0 +1,10 @@
+-- `failing_below` gives a budget below `cap` that fails with all below it, or 0. The invariant keeps the budget above 0 and at most `cap`.
+-- Assumes nothing.
+use Prim.Native.Nat.{◌≤◌}
+use Rattle.shares.proofs.search.failing_below.Given as goal
+
+abbrev pub invariant-loop-step : goal.invariant-loop-step
+invariant-loop-step l = (1 ≤ l.b) × (l.b ≤ l.cap) × (1 ≤ l.step)
+
+abbrev pub decreases-loop-step : goal.decreases-loop-step
+decreases-loop-step l = l.b
