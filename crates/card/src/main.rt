@@ -26,7 +26,7 @@ struct Round {
     refusal: Refusal,
 }
 
-// `sizing` has its own: a library's function has to promise its result, and no contract says whether a write works.
+// Whether the lines were written; where not, standard error is told. Each program says its own name there.
 fn is_written<W: Write, E: Write>(output: &mut W, errors: &mut E, lines: &[u8]) -> bool {
     let ok = reads::write_all(output, lines);
     if !ok {
@@ -49,7 +49,7 @@ fn answered<W: Write, E: Write>(
 ) -> Round
     requires { ValidCore core × (end ≤ length input.now) × (longest ≤ length out.old) × (offset + end < 2 ^ 64) }
     ensures valid_core { ValidCore result.core × (result.held ≤ end) }
-    ensures fact { (result.standing ≡ WriteFailed) ⊎ (result ≡ served_part core offset (take end input.now) last) }
+    ensures served_or_failed { (result.standing ≡ WriteFailed) ⊎ (result ≡ served_part core offset (take end input.now) last) }
 {
     let mut served = Served {
         core,
@@ -97,7 +97,7 @@ fn one_round<W: Write, E: Write>(
 ) -> Round
     requires { ValidCore core × (held < length input.old) × (longest ≤ length out.old) × (offset + length input.old < 2 ^ 64) }
     ensures valid_core { ValidCore result.core × (take result.held input.new ≡ last_bytes result.held (to_serve input.old held got)) × Bytes input.old }
-    ensures fact { (result.standing ≡ WriteFailed) ⊎ (result ≡ round_of core offset held (to_serve input.old held got) got) }
+    ensures served_or_failed { (result.standing ≡ WriteFailed) ⊎ (result ≡ round_of core offset held (to_serve input.old held got) got) }
 {
     if got < 0 {
         reads::write_all(errors, b"card: a read failed\n");

@@ -85,7 +85,7 @@ fn begins(offset: u64, used: usize) -> u64
 // The loop carries the answer: a local for its core would cost a copy of the table for each record.
 pub fn serve(core: Core, input: &[u8], offset: u64, last: bool, out: &mut [u8]) -> Served
     requires { ValidCore core }
-    ensures value { (result ≡ handed (serve_of core offset input.now last (some (length out.old)))) × ValidCore result.core }
+    ensures handed_back { (result ≡ handed (serve_of core offset input.now last (some (length out.old)))) × ValidCore result.core }
     ensures out_after { out.new ≡ over (serve_of core offset input.now last (some (length out.old))).lines out.old }
     ensures used_in_bounds { (result.used ≤ length input.now) × (result.written ≤ length out.old) }
 {

@@ -5,10 +5,12 @@ use mathlib.Core.Bool.{Bool, true, false, cond}
 use mathlib.Core.List.{List, [], ◌∷◌}
 use native.Mathlib.Omega.{arith}
 use lib.Dec.{eqb}
-use lib.ListN.{length, get_or, take, drop, length-drop}
-use lib.Seq.{drop-cons, drop-drop, take_all}
-use native.Mathlib.Numerals.{add-one}
-use borrow.Author.Tests.{eqb-false, eq-eqb, ne_eqb}
+use lib.ListN.{length, take, drop, length-drop}
+use lib.Seq.{drop-drop, take_all}
+use borrow.Author.Tests.{eqb-false, ltb-false}
+use Rattle.std.specs.Prelude.{Option, Some, None, ltb, position, unwrap_or}
+use Rattle.std.specs.List.{position_or_len}
+use Rattle.std.proofs.lemmas.List.Recursion.{is_position_or_len}
 use Rattle.queries.specs.Meaning.{until, behind}
 use Rattle.queries.specs.Private.{pieces_from}
 
@@ -49,16 +51,36 @@ behind_more b (x ∷ t) h = go (eqb x b) h (behind_more b t)
     go true h r = refl
     go false h r = r (omega arith)
 
--- the search looks at the bytes one by one
-pub here : (b : ℕ) (s : List ℕ) (k : ℕ) → k < length s → get_or s k 0 ≡ b → length (until b (drop k s)) ≡ 0
-here b s k h e = rw (drop-cons s k 0 h, eq-eqb (get_or s k 0) b e)
+-- the library's search finds where the first piece ends
+index_until : (b : ℕ) (t : List ℕ) → length (until b t) ≡ position_or_len (λ x. eqb x b) t
+index_until b t = is_position_or_len (λ (s : List ℕ). length (until b s)) (λ x. eqb x b) refl (λ x s. go (eqb x b) x s) t
+  where
+    go : (c : Bool) (x : ℕ) (s : List ℕ) → length (cond c [] (x ∷ until b s)) ≡ cond c 0 (1 + length (until b s))
+    go true x s = refl
+    go false x s = omega arith
 
-pub further : (b : ℕ) (s : List ℕ) (k : ℕ) → k < length s → (get_or s k 0 ≡ b → ⊥)
-    → length (until b (drop k s)) ≡ suc (length (until b (drop (k + 1) s)))
-further b s k h e = rw (drop-cons s k 0 h, ne_eqb (get_or s k 0) b e, add-one)
+pub found : (b : ℕ) (t : List ℕ) (o : Option ℕ) → o ≡ position (λ x. eqb x b) t → unwrap_or o (length t) ≡ length (until b t)
+found b t o e = ap (λ (p : Option ℕ). unwrap_or p (length t)) e ∙ go (ltb n (length t)) refl ∙ sym (index_until b t)
+  where
+    n : ℕ
+    n = position_or_len (λ x. eqb x b) t
 
-pub at_end_lem : (b : ℕ) (s : List ℕ) (k : ℕ) → length s ≤ k → length (until b (drop k s)) ≡ 0
-at_end_lem b s k h = omega (arith, until-few b (drop k s), length-drop k s)
+    whole : ltb n (length t) ≡ false → length t ≡ n
+    whole h = omega (arith, ltb-false n (length t) h, index_until b t, until-few b t)
+
+    go : (c : Bool) → ltb n (length t) ≡ c → unwrap_or (cond c (Some n) None) (length t) ≡ n
+    go true h = refl
+    go false h = whole h
+
+-- and so in what stands behind `from`, which code names by its length
+pub found_behind : (b : ℕ) (s : List ℕ) (from r : ℕ) (o : Option ℕ)
+    → o ≡ position (λ x. eqb x b) (take (length s - from) (drop from s))
+    → r ≡ unwrap_or o (length (take (length s - from) (drop from s)))
+    → r ≡ length (until b (drop from s))
+found_behind b s from r o e q =
+    q
+    ∙ found b (take (length s - from) (drop from s)) o e
+    ∙ ap (λ (l : List ℕ). length (until b l)) (take_all (length s - from) (drop from s) (omega (arith, length-drop from s)))
 
 -- a piece that begins at `from` and ends at `end`
 module _ (b : ℕ) (s : List ℕ) (from end : ℕ) (inside : from ≤ length s) (e : end ≡ from + length (until b (drop from s))) where

@@ -43,10 +43,10 @@ every_length true (x ∷ xs) = omega (arith, every_length false xs)
 every_length false (x ∷ xs) = omega (arith, every_length true xs)
 
 -- beyond a list there is nothing
-get_d_out : (l : List ℕ) (i : ℕ) → length l ≤ i → get_or l i 0 ≡ 0
-get_d_out [] i h = refl
-get_d_out (x ∷ l) zero h = absurd (omega arith)
-get_d_out (x ∷ l) (suc i) h = get_d_out l i (omega arith)
+get_or_out : (l : List ℕ) (i : ℕ) → length l ≤ i → get_or l i 0 ≡ 0
+get_or_out [] i h = refl
+get_or_out (x ∷ l) zero h = absurd (omega arith)
+get_or_out (x ∷ l) (suc i) h = get_or_out l i (omega arith)
 
 -- the kept numbers of the fields fs
 module _ (fs : List (List ℕ)) (numbers : List ℕ) (k : Kept fs numbers) where
@@ -82,7 +82,7 @@ module _ (fs : List (List ℕ)) (numbers : List ℕ) (k : Kept fs numbers) where
           each true c = omega arith
           each false c = omega arith
       go i (inr out) =
-          inl (get_d_out (take m r) i (omega (arith, short)) ∙ sym (get_d_out (every_other t (drop h ns)) i (omega (arith, short, sizes))))
+          inl (get_or_out (take m r) i (omega (arith, short)) ∙ sym (get_or_out (every_other t (drop h ns)) i (omega (arith, short, sizes))))
 
   -- the tasks behind h fields, as they are handed on
   module _ (h : ℕ) (ps es : List ℕ) (inside : h ≤ length fs) (few : h ≤ 2) (p-size : length ps ≡ 17) (e-size : length es ≡ 17)

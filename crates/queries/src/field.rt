@@ -4,18 +4,12 @@ ghost use Rattle.queries.specs.Meaning.{until, is_digit};
 ghost use Rattle.queries.specs.Private.{with_digit, number_read};
 
 // The place of the first such byte at or behind `from`; the end where there is none.
-pub fn find(s: &[u8], from: usize, byte: u8) -> usize
+pub(crate) fn find(s: &[u8], from: usize, byte: u8) -> usize
     requires { from ≤ length s.now }
     ensures { result ≡ from + length (until byte (drop from s.now)) }
 {
-    let mut k = from;
-    while k < s.len() {
-        if s[k] == byte {
-            return k;
-        }
-        k += 1;
-    }
-    k
+    let rest = &s[from..];
+    from + rest.iter().position(|&b| b == byte).unwrap_or(rest.len())
 }
 
 #[derive(Clone, Copy)]

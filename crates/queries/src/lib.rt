@@ -7,6 +7,5 @@ mod field;
 mod line;
 mod write;
 
-pub use field::find;
 pub use line::{LONGEST_LINE, answer, bad_line, trimmed_size};
 pub use write::LONGEST_ANSWER;

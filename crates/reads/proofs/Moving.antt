@@ -13,8 +13,8 @@ use borrow.Author.Tests.{le-leb, lt-leb}
 use Rattle.reads.specs.Reads.{moved}
 
 -- the first k bytes from `from` on in front of l, the others of l as they are
-abbrev pub in_front_lem : ℕ → ℕ → List ℕ → List ℕ
-in_front_lem from k l = slice from (from + k) l ++ drop k l
+abbrev pub in_front : ℕ → ℕ → List ℕ → List ℕ
+in_front from k l = slice from (from + k) l ++ drop k l
 
 module _ (from end : ℕ) (l : List ℕ) where
   -- what the tests of the two places say of it
@@ -31,7 +31,7 @@ module _ (from end : ℕ) (l : List ℕ) where
   pub not_within : from ≤ end → length l < end → moved from end l ≡ l
   not_within low h = tested true false (le-leb from end low) (lt-leb end (length l) h)
 
-pub none-moved : (from : ℕ) (l : List ℕ) → l ≡ in_front_lem from 0 l
+pub none-moved : (from : ℕ) (l : List ℕ) → l ≡ in_front from 0 l
 none-moved from l =
     let e : from + 0 ≡ from = omega arith in
     sym (ap (λ (n : ℕ). slice from n l ++ l) e ∙ ap (λ (xs : List ℕ). xs ++ l) (slice_empty from l))
@@ -41,11 +41,11 @@ module _ (from k : ℕ) (l : List ℕ) (within : from + k < length l) where
   size = length-slice from (from + k) l (omega arith) ∙ omega arith
 
   -- the next byte has not moved yet
-  still : get_or (in_front_lem from k l) (from + k) 0 ≡ get_or l (from + k) 0
+  still : get_or (in_front from k l) (from + k) 0 ≡ get_or l (from + k) 0
   still =
       let there : from + k ≡ length (slice from (from + k) l) + from = omega (arith, size) in
       let same : k + from ≡ from + k = omega arith in
-      ap (λ (n : ℕ). get_or (in_front_lem from k l) n 0) there
+      ap (λ (n : ℕ). get_or (in_front from k l) n 0) there
       ∙ get_or-append-add (slice from (from + k) l) (drop k l) from 0
       ∙ get_or-drop k l from 0
       ∙ ap (λ (n : ℕ). get_or l n 0) same
@@ -57,12 +57,12 @@ module _ (from k : ℕ) (l : List ℕ) (within : from + k < length l) where
       ∙ ap (drop from) (take-suc l (from + k) 0 within)
       ∙ drop-append-le from (take (from + k) l) (get_or l (from + k) 0 ∷ []) (omega (arith, length-take-le (from + k) l (omega arith)))
 
-  pub one-moved : set (in_front_lem from k l) k (get_or (in_front_lem from k l) (from + k) 0) ≡ in_front_lem from (k + 1) l
+  pub one-moved : set (in_front from k l) k (get_or (in_front from k l) (from + k) 0) ≡ in_front from (k + 1) l
   one-moved =
       let xs : List ℕ = slice from (from + k) l in
       let b : ℕ = get_or l (from + k) 0 in
       let next : suc k ≡ k + 1 = omega arith in
-      ap (set (in_front_lem from k l) k) still
+      ap (set (in_front from k l) k) still
       ∙ ap (λ (ys : List ℕ). set (xs ++ ys) k b) (drop-cons l k 0 (omega arith))
       ∙ set_at xs (get_or l k 0) (drop (suc k) l) b k size
       ∙ sym (append_snoc xs b (drop (suc k) l))

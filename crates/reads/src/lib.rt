@@ -37,7 +37,7 @@ pub fn read_part<R: Read>(from: &mut R, part: &mut [u8]) -> isize
 }
 
 // Writes all the bytes and answers true, or answers false where a write failed or took nothing; some of them may be
-// written then.
+// written then. A write that a signal interrupts before it takes a byte is tried again.
 pub fn write_all<W: Write>(to: &mut W, bytes: &[u8]) -> bool
     ensures { result ≡ true → Appends (W.contents to.old) (W.contents to.new) bytes.now }
 {

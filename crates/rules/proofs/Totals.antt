@@ -50,10 +50,10 @@ whatever_it_does = (refl, refl, refl, refl, refl)
 abbrev roomy : List Call
 roomy = at 0 (wake 7) ∷ at 0 (admits 9 20 5 2 1) ∷ at 0 (admits 7 100 90 1 0) ∷ []
 
-abbrev from_told_lem : Card → Call → Option ℕ
-from_told_lem c call = timer_told call.now (told_by c call.now) (after_change c call) (choose (after_change c call))
+abbrev from_told : Card → Call → Option ℕ
+from_told c call = timer_told call.now (told_by c call.now) (after_change c call) (choose (after_change c call))
 
-pub told_timers : (from_told_lem (after before) (at 20 tick) ≡ some 25) × (from_told_lem (after roomy) (at 0 (wake 9)) ≡ some 90)
+pub told_timers : (from_told (after before) (at 20 tick) ≡ some 25) × (from_told (after roomy) (at 0 (wake 9)) ≡ some 90)
 unfolding turn refusal settled timer timer_told more_urgent charged posted
 told_timers = (refl, refl)
 

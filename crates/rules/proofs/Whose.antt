@@ -33,15 +33,15 @@ case =
     ∷ []
 
 -- 65793 held 3 ticks and 1, of which 1 is pending; 257 held 7, which came back at 11
-abbrev in_the_case_lem : List (List ℕ)
-in_the_case_lem = (0 ∷ 0 ∷ []) ∷ (65793 ∷ 1 ∷ 4 ∷ []) ∷ (257 ∷ 0 ∷ 7 ∷ []) ∷ []
+abbrev accounts_in_case : List (List ℕ)
+accounts_in_case = (0 ∷ 0 ∷ []) ∷ (65793 ∷ 1 ∷ 4 ∷ []) ∷ (257 ∷ 0 ∷ 7 ∷ []) ∷ []
 
 -- a call at the same time, a wake and a refused call move no total
 pub in_the_case :
-    (accounts (after case) ≡ in_the_case_lem)
-    × (accounts (after (at 11 tick ∷ case)) ≡ in_the_case_lem)
-    × (accounts (after (at 11 (wake 65793) ∷ case)) ≡ in_the_case_lem)
-    × (accounts (after (at 30 tick ∷ case)) ≡ in_the_case_lem)
+    (accounts (after case) ≡ accounts_in_case)
+    × (accounts (after (at 11 tick ∷ case)) ≡ accounts_in_case)
+    × (accounts (after (at 11 (wake 65793) ∷ case)) ≡ accounts_in_case)
+    × (accounts (after (at 30 tick ∷ case)) ≡ accounts_in_case)
 unfolding turn refusal settled timer more_urgent charged posted
 in_the_case = (refl, refl, refl, refl)
 

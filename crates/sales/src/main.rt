@@ -39,7 +39,7 @@ struct Round {
     standing: Standing,
 }
 
-// `sizing` has its own: a library's function has to promise its result, and no contract says whether a write works.
+// Whether the answers were written; where not, standard error is told. Each program says its own name there.
 fn is_written<W: Write, E: Write>(output: &mut W, errors: &mut E, answers: &[u8]) -> bool {
     let ok = reads::write_all(output, answers);
     if !ok {
@@ -52,7 +52,10 @@ fn is_written<W: Write, E: Write>(output: &mut W, errors: &mut E, answers: &[u8]
 fn line_end(input: &[u8]) -> usize
     ensures { result ≡ length (until 10 input.now) }
 {
-    queries::find(input, 0, b'\n')
+    input
+        .iter()
+        .position(|&b| b == b'\n')
+        .unwrap_or(input.len())
 }
 
 // Where the sheet begins, behind the newline; the end where there is none.
@@ -180,7 +183,10 @@ fn given(question: &[u8]) -> usize
 fn word_end(question: &[u8]) -> usize
     ensures { result ≡ length (until 32 question.now) }
 {
-    queries::find(question, 0, b' ')
+    question
+        .iter()
+        .position(|&b| b == b' ')
+        .unwrap_or(question.len())
 }
 
 // The first field that is missing, or one too many.
@@ -334,8 +340,8 @@ fn one_round<W: Write, E: Write>(
     out: &mut [u8],
 ) -> Round
     requires { (held < length input.now) × (1024 ≤ length out.old) }
-    ensures input_value { (result.standing ≡ GoesOn → take result.held input.now ≡ last_bytes result.held (to_serve input.now held got)) × Bytes input.now }
-    ensures fact { (result.standing ≡ WriteFailed) ⊎ (result ≡ round_of held (to_serve input.now held got) got) }
+    ensures what_waits { (result.standing ≡ GoesOn → take result.held input.now ≡ last_bytes result.held (to_serve input.now held got)) × Bytes input.now }
+    ensures served_or_failed { (result.standing ≡ WriteFailed) ⊎ (result ≡ round_of held (to_serve input.now held got) got) }
 {
     if got < 0 {
         reads::write_all(errors, b"sales: a read failed\n");

@@ -150,7 +150,7 @@ impl Sheet {
     // The lines of the tasks at the front of `out`; where they have no room, nothing.
     pub fn write(self, out: &mut [u8]) -> Writing
         requires { ValidSheet self }
-        ensures result_value { paper_writing result ≡ write_reply (text_of self) out.old }
+        ensures reply_is { paper_writing result ≡ write_reply (text_of self) out.old }
         ensures out_after { out.new ≡ written_in (text_of self) out.old }
     {
         let n = self.count;

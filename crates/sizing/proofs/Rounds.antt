@@ -28,9 +28,9 @@ module _ (long : Bool) (offset held : ℕ) where
 
   -- n bytes came behind those held, or the input ended, and a newline was put behind these
   module _ (input : List ℕ) (got : ℤ) (n end : ℕ) (filled : List ℕ) (low : held < length input) (count : n ≡ clamp_len got (length input - held))
-      (end_is : end ≡ cond (eqb n 0) (held + 1) (held + n)) (Filled-is : filled ≡ cond (eqb n 0) (set input held 10) input) where
+      (end_is : end ≡ cond (eqb n 0) (held + 1) (held + n)) (filled_is : filled ≡ cond (eqb n 0) (set input held 10) input) where
     pub end-within : held + n ≤ length input → end ≤ length filled
-    end-within fits = omega (arith, sized (eqb n 0), end_is, ap length Filled-is)
+    end-within fits = omega (arith, sized (eqb n 0), end_is, ap length filled_is)
       where
         sized : (t : Bool) → cond t (held + 1) (held + n) ≤ length (cond t (set input held 10) input)
         sized true = omega (arith, low, length-set input held 10)
@@ -39,7 +39,7 @@ module _ (long : Bool) (offset held : ℕ) where
     pub part-is : take end filled ≡ ended (eqb n 0) (take (held + n) input)
     part-is =
         ap (λ (m : ℕ). take m filled) end_is
-        ∙ ap (take (cond (eqb n 0) (held + 1) (held + n))) Filled-is
+        ∙ ap (take (cond (eqb n 0) (held + 1) (held + n))) filled_is
         ∙ go (eqb n 0) refl
       where
         go : (t : Bool) → eqb n 0 ≡ t
@@ -84,6 +84,6 @@ module _ (long : Bool) (offset held : ℕ) where
       rest-kept after e goes =
           let came = not_last goes in
           let there : end ≡ held + n = end_is ∙ ap (λ (t : Bool). cond t (held + 1) (held + n)) came in
-          let same : filled ≡ input = Filled-is ∙ ap (λ (t : Bool). cond t (set input held 10) input) came in
+          let same : filled ≡ input = filled_is ∙ ap (λ (t : Bool). cond t (set input held 10) input) came in
           round_kept input held got n after r.held low count (omega (arith, few, there, length-take end filled))
           (e ∙ ap (λ (m : ℕ). moved (m - r.held) m filled) there ∙ ap (moved (held + n - r.held) (held + n)) same)

@@ -35,7 +35,7 @@ struct Go {
     full: bool,
 }
 
-// `card` has its own: a library's function has to promise its result, and no contract says whether a write works.
+// Whether the answers were written; where not, standard error is told. Each program says its own name there.
 fn is_written<W: Write, E: Write>(output: &mut W, errors: &mut E, answers: &[u8]) -> bool {
     let ok = reads::write_all(output, answers);
     if !ok {
@@ -68,7 +68,8 @@ fn line_end(part: &[u8], from: usize) -> usize
     requires { from ≤ length part.now }
     ensures { result ≡ from + length (until 10 (drop from part.now)) }
 {
-    queries::find(part, from, b'\n')
+    let rest = &part[from..];
+    from + rest.iter().position(|&b| b == b'\n').unwrap_or(rest.len())
 }
 
 // Answers the lines of the part that have ended, until there is no room for a longest answer.
@@ -124,7 +125,7 @@ fn answered<W: Write, E: Write>(
 ) -> Round
     requires { (longest ≤ length out.old) × (offset + length part.now < 2 ^ 64) }
     ensures held_in_bounds { result.held ≤ length part.now }
-    ensures fact { (result.standing ≡ WriteFailed) ⊎ (result ≡ served_part begun offset part.now last) }
+    ensures served_or_failed { (result.standing ≡ WriteFailed) ⊎ (result ≡ served_part begun offset part.now last) }
 {
     let mut long = begun;
     let mut used = 0;
@@ -174,8 +175,8 @@ fn one_round<W: Write, E: Write>(
     out: &mut [u8],
 ) -> Round
     requires { (held < length input.old) × (longest ≤ length out.old) × (offset + length input.old < 2 ^ 64) }
-    ensures input_after { (result.standing ≡ GoesOn → take result.held input.new ≡ last_bytes result.held (to_serve input.old held got)) × Bytes input.old }
-    ensures fact { (result.standing ≡ WriteFailed) ⊎ (result ≡ round_of long offset held (to_serve input.old held got) got) }
+    ensures what_waits { (result.standing ≡ GoesOn → take result.held input.new ≡ last_bytes result.held (to_serve input.old held got)) × Bytes input.old }
+    ensures served_or_failed { (result.standing ≡ WriteFailed) ⊎ (result ≡ round_of long offset held (to_serve input.old held got) got) }
 {
     if got < 0 {
         reads::write_all(errors, b"sizing: a read failed\n");

@@ -1,4 +1,4 @@
--- What holds of every core that calls make (proofs/Made, `Made-so`): it shows the rules' card after the same calls, is what that card is
+-- What holds of every core that calls make (proofs/Made, `made_so`): it shows the rules' card after the same calls, is what that card is
 -- written as, and its table is in the order of urgency. What the rules prove of such a card is drawn from there. Assumes nothing.
 use Prim.Native.Nat.{ℕ, ◌+◌, ◌≤◌}
 use mathlib.Core.Path.{◌≡◌, refl, sym, subst}

@@ -56,16 +56,16 @@ use Rattle.turns.proofs.Settle.{calm-one}
 use Rattle.turns.proofs.Heard.{said_of, times_of, heard-marked, heard-new}
 
 -- what depends on the terms alone
-abbrev on_terms_lem : ℕ → List Terms → Bool
-on_terms_lem t l = any (λ d. eqb d.tunnel t) l
+abbrev on_terms : ℕ → List Terms → Bool
+on_terms t l = any (λ d. eqb d.tunnel t) l
 
 abbrev place_terms : ℕ → List Terms → ℕ
 place_terms t [] = 0
 place_terms t (d ∷ l) = cond (eqb d.tunnel t) 0 (suc (place_terms t l))
 
-on_terms : (t : ℕ) (vs : List Tenant) → on_card t vs ≡ on_terms_lem t (terms_of vs)
-on_terms t [] = refl
-on_terms t (v ∷ vs) = ap (λ (b : Bool). named t v || b) (on_terms t vs)
+on_terms_lem : (t : ℕ) (vs : List Tenant) → on_card t vs ≡ on_terms t (terms_of vs)
+on_terms_lem t [] = refl
+on_terms_lem t (v ∷ vs) = ap (λ (b : Bool). named t v || b) (on_terms_lem t vs)
 
 place-terms : (t : ℕ) (vs : List Tenant) → place t vs ≡ place_terms t (terms_of vs)
 place-terms t [] = refl

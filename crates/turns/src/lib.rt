@@ -255,8 +255,8 @@ impl Core {
     // One function for the five calls, with its loops and the table in it: a function that takes the table costs a copy of it.
     pub fn turn(self, now: Moment, change: Change) -> Answer
         requires { ValidCore self }
-        ensures reply_value { paper_reply result.reply ≡ (turnRule (card self) (call_of now change)).reply }
-        ensures core_value { (result.core ≡ core_of (turnRule (card self) (call_of now change)).card) × ValidCore result.core }
+        ensures reply_is { paper_reply result.reply ≡ (turnRule (card self) (call_of now change)).reply }
+        ensures core_is { (result.core ≡ core_of (turnRule (card self) (call_of now change)).card) × ValidCore result.core }
     {
         let last = self.last;
         let mut ids = self.ids;
@@ -391,40 +391,40 @@ impl Core {
 
     pub fn admit(self, now: Moment, description: Description) -> Answer
         requires { ValidCore self }
-        ensures reply_value { paper_reply result.reply ≡ (turnRule (card self) (call_of now (Change.Admit description))).reply }
-        ensures core_value { (result.core ≡ core_of (turnRule (card self) (call_of now (Change.Admit description))).card) × ValidCore result.core }
+        ensures reply_is { paper_reply result.reply ≡ (turnRule (card self) (call_of now (Change.Admit description))).reply }
+        ensures core_is { (result.core ≡ core_of (turnRule (card self) (call_of now (Change.Admit description))).card) × ValidCore result.core }
     {
         self.turn(now, Change::Admit(description))
     }
 
     pub fn wake(self, now: Moment, id: Tunnel) -> Answer
         requires { ValidCore self }
-        ensures reply_value { paper_reply result.reply ≡ (turnRule (card self) (call_of now (Change.Wake id))).reply }
-        ensures core_value { (result.core ≡ core_of (turnRule (card self) (call_of now (Change.Wake id))).card) × ValidCore result.core }
+        ensures reply_is { paper_reply result.reply ≡ (turnRule (card self) (call_of now (Change.Wake id))).reply }
+        ensures core_is { (result.core ≡ core_of (turnRule (card self) (call_of now (Change.Wake id))).card) × ValidCore result.core }
     {
         self.turn(now, Change::Wake(id))
     }
 
     pub fn block(self, now: Moment, id: Tunnel) -> Answer
         requires { ValidCore self }
-        ensures reply_value { paper_reply result.reply ≡ (turnRule (card self) (call_of now (Change.Block id))).reply }
-        ensures core_value { (result.core ≡ core_of (turnRule (card self) (call_of now (Change.Block id))).card) × ValidCore result.core }
+        ensures reply_is { paper_reply result.reply ≡ (turnRule (card self) (call_of now (Change.Block id))).reply }
+        ensures core_is { (result.core ≡ core_of (turnRule (card self) (call_of now (Change.Block id))).card) × ValidCore result.core }
     {
         self.turn(now, Change::Block(id))
     }
 
     pub fn remove(self, now: Moment, id: Tunnel) -> Answer
         requires { ValidCore self }
-        ensures reply_value { paper_reply result.reply ≡ (turnRule (card self) (call_of now (Change.Remove id))).reply }
-        ensures core_value { (result.core ≡ core_of (turnRule (card self) (call_of now (Change.Remove id))).card) × ValidCore result.core }
+        ensures reply_is { paper_reply result.reply ≡ (turnRule (card self) (call_of now (Change.Remove id))).reply }
+        ensures core_is { (result.core ≡ core_of (turnRule (card self) (call_of now (Change.Remove id))).card) × ValidCore result.core }
     {
         self.turn(now, Change::Remove(id))
     }
 
     pub fn tick(self, now: Moment) -> Answer
         requires { ValidCore self }
-        ensures reply_value { paper_reply result.reply ≡ (turnRule (card self) (call_of now Change.Tick)).reply }
-        ensures core_value { (result.core ≡ core_of (turnRule (card self) (call_of now Change.Tick)).card) × ValidCore result.core }
+        ensures reply_is { paper_reply result.reply ≡ (turnRule (card self) (call_of now Change.Tick)).reply }
+        ensures core_is { (result.core ≡ core_of (turnRule (card self) (call_of now Change.Tick)).card) × ValidCore result.core }
     {
         self.turn(now, Change::Tick)
     }
@@ -432,10 +432,10 @@ impl Core {
     // What is known of the VCPU so named, or of one that left. A vacant place has an identifier above 24 bits, which must not be found.
     pub fn look(self, id: Tunnel) -> Look
         requires { ValidCore self }
-        ensures presence_value { paper_presence result.presence ≡ on_card id.0 (card self).vcpus }
-        ensures presence_value_2 { paper_remembered result.presence ≡ time_of id.0 (card self).remembered }
-        ensures vcpu_value { result.vcpu ≡ looked (findRule id.0 (card self).vcpus) }
-        ensures boundary_value { paper_boundary result.boundary ≡ boundary_of (findRule id.0 (card self).vcpus) }
+        ensures presence_is { paper_presence result.presence ≡ on_card id.0 (card self).vcpus }
+        ensures remembered_until { paper_remembered result.presence ≡ time_of id.0 (card self).remembered }
+        ensures vcpu_is { result.vcpu ≡ looked (findRule id.0 (card self).vcpus) }
+        ensures boundary_is { paper_boundary result.boundary ≡ boundary_of (findRule id.0 (card self).vcpus) }
     {
         let vacant = steps::vacant();
         let memory = self.memory;
@@ -481,10 +481,10 @@ impl Core {
 
     pub fn status(self) -> Status
         requires { ValidCore self }
-        ensures time_value { (result.time.0 ≡ (card self).last) × (paper_holder result.run ≡ (card self).running) }
-        ensures timer_value { (paper_timer result.timer ≡ (card self).timer) × (result.vcpus ≡ length (card self).vcpus) }
-        ensures remembered_value { result.remembered ≡ length (card self).remembered }
-        ensures removed_value { (result.removed.0 ≡ (card self).removed) × (result.idle.0 ≡ (card self).idle) }
+        ensures time_and_holder { (result.time.0 ≡ (card self).last) × (paper_holder result.run ≡ (card self).running) }
+        ensures timer_and_vcpus { (paper_timer result.timer ≡ (card self).timer) × (result.vcpus ≡ length (card self).vcpus) }
+        ensures remembered_count { result.remembered ≡ length (card self).remembered }
+        ensures removed_and_idle { (result.removed.0 ≡ (card self).removed) × (result.idle.0 ≡ (card self).idle) }
     {
         let ids = self.ids;
         let time = self.last;

@@ -86,9 +86,9 @@ returns-then-not-ok g c =
       | then-not-ok-via-else-not-ok+then-served t ↦ inr (inl t.if-served.true)
       | then-not-ok-via-else-not-ok+else-served+then-served-eq0 t ↦ inr (inr (omega (arith, tests, t.if-served-eq0.true)))
     ] in record {
-      valid_core = (s.ensures.value.1, omega arith);
-      fact = last_go a.core a.offset a.input.now a.end a.last l.served.core l.used (length l.out) s.result
-          l.invariant.3 l.invariant.1 c.requires.1 s.ensures.value.0 w c.standing_of.result
+      valid_core = (s.ensures.handed_back.1, omega arith);
+      served_or_failed = last_go a.core a.offset a.input.now a.end a.last l.served.core l.used (length l.out) s.result
+          l.invariant.3 l.invariant.1 c.requires.1 s.ensures.handed_back.0 w c.standing_of.result
           (omega (arith, c.requires.2, l.invariant.2)) why c.standing_of.ensures;
     }
 
@@ -100,9 +100,9 @@ loop-core-preserved g c =
     let s = goes_on g c in
     let l = (top g s).loop-core in
     let a = (start g (top g s)).args in (
-      s.serve-served.ensures.value.1,
+      s.serve-served.ensures.handed_back.1,
       serve-used g s,
       s.serve-served.auto.out ∙ l.invariant.2,
       next_go a.core a.offset a.input.now a.end a.last l.served.core l.used (length l.out) s.serve-served.result
-          l.invariant.3 l.invariant.1 (start g (top g s)).requires.1 s.serve-served.ensures.value.0 c.if-served.false,
+          l.invariant.3 l.invariant.1 (start g (top g s)).requires.1 s.serve-served.ensures.handed_back.0 c.if-served.false,
     )

@@ -24,7 +24,7 @@ returns-then-got-lt0 g c =
         failed-kept a.input.now a.held a.got (omega (arith, c.requires.1)) below,
         λ i. (c.type_inv.input i).fits,
       );
-      fact = inr (round_failed a.core a.offset a.held (to_serve a.input.now a.held a.got) a.got below);
+      served_or_failed = inr (round_failed a.core a.offset a.held (to_serve a.input.now a.held a.got) a.got below);
     }
 
 pub returns : goal.returns
@@ -40,6 +40,6 @@ returns g c =
         round_kept a.input.now a.held a.got n.result c.move_rest.new.input r.result.held low counted r.ensures.valid_core.1 c.move_rest.ensures,
         λ i. (c.slice_known-1.given i).fits,
       );
-      fact = round_served a.core a.offset a.held a.input.now a.got n.result r.result low counted
-          (subst (λ (z : ℤ). lt_z z (pos 0) ≡ false) bits c.if-got-lt0.false) r.ensures.fact;
+      served_or_failed = round_served a.core a.offset a.held a.input.now a.got n.result r.result low counted
+          (subst (λ (z : ℤ). lt_z z (pos 0) ≡ false) bits c.if-got-lt0.false) r.ensures.served_or_failed;
     }

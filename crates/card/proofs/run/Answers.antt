@@ -64,7 +64,7 @@ step g o =
     let got = c.read_part-got.result in
     let fits : SFits w64 got = search rules in
     read_step laws 65536 (began g o) (left g o) l.input c.read_part-got.new.part (after g o) got (to_z w64 (of_z w64 got)) l.invariant.3
-    (omega (arith, small)) l.invariant.1 c.read_part-got.auto.part (to_z-of_z w64 got fits) c.read_part-got.ensures.room o.one_round-r.ensures.valid_core.2 o.one_round-r.ensures.fact (λ goes. o.one_round-r.ensures.valid_core.1)
+    (omega (arith, small)) l.invariant.1 c.read_part-got.auto.part (to_z-of_z w64 got fits) c.read_part-got.ensures.room o.one_round-r.ensures.valid_core.2 o.one_round-r.ensures.served_or_failed (λ goes. o.one_round-r.ensures.valid_core.1)
 
 pub loop-r-init : goal.loop-r-init
 loop-r-init g c =

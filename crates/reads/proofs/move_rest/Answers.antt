@@ -4,7 +4,7 @@ use native.Mathlib.Omega.{arith}
 use mathlib.Core.List.{List, ◌++◌}
 use lib.ListN.{drop, set, get_or, length-set}
 use lib.Seq.{slice}
-use Rattle.reads.proofs.Moving.{in_front_lem, all_moved, not_ordered, not_within, none-moved, one-moved}
+use Rattle.reads.proofs.Moving.{in_front, all_moved, not_ordered, not_within, none-moved, one-moved}
 use Rattle.reads.proofs.move_rest.Goals as goal
 use Rattle.reads.proofs.move_rest.Goals.{At-loop-k, Start}
 
@@ -51,6 +51,6 @@ returns c =
     let last : l.k ≡ a.end - a.from = omega arith in
     let whole : a.from + (a.end - a.from) ≡ a.end = omega (arith, l.invariant) in
     l.invariant.4
-    ∙ ap (λ (n : ℕ). in_front_lem a.from n first) last
+    ∙ ap (λ (n : ℕ). in_front a.from n first) last
     ∙ ap (λ (n : ℕ). slice a.from n first ++ drop (a.end - a.from) first) whole
     ∙ sym (all_moved a.from a.end first (omega (arith, l.invariant)) l.invariant.2)

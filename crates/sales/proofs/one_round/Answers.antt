@@ -75,8 +75,8 @@ returns-then-got-lt0 g c =
     let k = (goal.at.returns-then-got-lt0 g c).After-shared_slice_known-1 in
     let a = (start g k).args in
     let below : lt_z a.got (pos 0) ≡ true = subst (λ (z : ℤ). lt_z z (pos 0) ≡ true) (bits g k) c.if-got-lt0.true in record {
-      input_value = (λ goes. failed-kept a.input.now a.held a.got (omega (arith, (start g k).requires.0)) below, are_bytes g k);
-      fact = inr (round_failed a.held (to_serve a.input.now a.held a.got) a.got below);
+      what_waits = (λ goes. failed-kept a.input.now a.held a.got (omega (arith, (start g k).requires.0)) below, are_bytes g k);
+      served_or_failed = inr (round_failed a.held (to_serve a.input.now a.held a.got) a.got below);
     }
 
 pub slice_bounds-served-end : goal.slice_bounds-served-end
@@ -88,8 +88,8 @@ returns-then-over g c =
     let o = (goal.at.returns-then-over g c).After-is_over-over in
     let k = (goal.at.After-is_over-over g o).After-count-n in
     let s = take ((start g (known g k)).args.held + k.count-n.result) (start g (known g k)).args.input.now in record {
-      input_value = (λ goes. absurd (not_on s r.ensures.0 goes), are_bytes g (known g k));
-      fact = either s r.ensures.0 (round g o true c.if-over.true);
+      what_waits = (λ goes. absurd (not_on s r.ensures.0 goes), are_bytes g (known g k));
+      served_or_failed = either s r.ensures.0 (round g o true c.if-over.true);
     }
 
 pub returns : goal.returns
@@ -97,7 +97,7 @@ returns g c =
     let o = (goal.at.returns g c).After-is_over-over in
     let k = (goal.at.After-is_over-over g o).After-count-n in
     let a = (start g (known g k)).args in record {
-      input_value = (λ goes. all_wait a.held a.input.now a.got k.count-n.result (start g (known g k)).requires.0 (count g k) (in_buffer g k), are_bytes g (known g k));
-      fact = inr (goes-is a.held a.input.now a.got k.count-n.result (start g (known g k)).requires.0 (count g k) (in_buffer g k)
+      what_waits = (λ goes. all_wait a.held a.input.now a.got k.count-n.result (start g (known g k)).requires.0 (count g k) (in_buffer g k), are_bytes g (known g k));
+      served_or_failed = inr (goes-is a.held a.input.now a.got k.count-n.result (start g (known g k)).requires.0 (count g k) (in_buffer g k)
           ∙ sym (round g o false c.if-over.false));
     }

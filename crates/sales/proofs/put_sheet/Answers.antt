@@ -17,10 +17,10 @@ pub returns-in_default : goal.returns-in_default
 returns-in_default c =
     let s = (goal.at.returns-in_default c).Start in
     let w = c.write-writing in
-    absurd (not-refused (text_of s.args.sheet) s.args.out.now (fits s) w.result _ w.ensures.result_value c.in_default.is)
+    absurd (not-refused (text_of s.args.sheet) s.args.out.now (fits s) w.result _ w.ensures.reply_is c.in_default.is)
 
 pub returns : goal.returns
 returns c =
     let s = (goal.at.returns c).Start in
     let w = c.write-writing in
-    wrote (text_of s.args.sheet) s.args.out.now (fits s) w.result w.new.out _ w.ensures.result_value w.ensures.out_after c.in-Put.is
+    wrote (text_of s.args.sheet) s.args.out.now (fits s) w.result w.new.out _ w.ensures.reply_is w.ensures.out_after c.in-Put.is

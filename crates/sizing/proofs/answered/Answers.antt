@@ -69,7 +69,7 @@ returns-then-not-ok g c =
       | then-not-ok-via-else-not-ok+then-not-go u ↦ inr (not-true s.answers-go.result.full u.if-not-go.true)
     ] in record {
       held_in_bounds = omega arith;
-      fact = last_go a.begun a.part.now l.long l.used l.invariant.1 s.answers-go.new.out s.answers-go.result s.answers-go.ensures
+      served_or_failed = last_go a.begun a.part.now l.long l.used l.invariant.1 s.answers-go.new.out s.answers-go.result s.answers-go.ensures
           a.offset a.last j.is_written-ok.result c.standing_of.result why c.standing_of.ensures;
     }
 

@@ -76,8 +76,8 @@ returns-then-got-lt0 g c =
     let b = (goal.at.returns-then-got-lt0 g c).After-slice_known-2-1 in
     let a = (start g b).args in
     let below : lt_z a.got (pos 0) ≡ true = subst (λ (z : ℤ). lt_z z (pos 0) ≡ true) (bits g b) c.if-got-lt0.true in record {
-      input_after = (λ goes. failed-kept a.input.now a.held a.got (omega (arith, (start g b).requires.0)) below, are_bytes g b);
-      fact = inr (round_failed a.long a.offset a.held (to_serve a.input.now a.held a.got) a.got below);
+      what_waits = (λ goes. failed-kept a.input.now a.held a.got (omega (arith, (start g b).requires.0)) below, are_bytes g b);
+      served_or_failed = inr (round_failed a.long a.offset a.held (to_serve a.input.now a.held a.got) a.got below);
     }
 
 pub slice_bounds-answered-end : goal.slice_bounds-answered-end
@@ -108,13 +108,13 @@ returns g c =
     let k = counted g e in
     let b = (goal.at.Else-got-lt0 g (told g k)).After-slice_known-2-1 in
     let a = (start g b).args in record {
-      input_after = (
+      what_waits = (
         rest-kept a.long a.offset a.held a.input.now a.got k.count-n.result e.end_of-end.result e.end_of-end.new.input
             (start g b).requires.0 (count g k) e.end_of-end.ensures.0 e.end_of-end.ensures.1 d.answered-r.result d.answered-r.ensures.held_in_bounds
-            d.answered-r.ensures.fact m.move_rest.new.input m.move_rest.ensures,
+            d.answered-r.ensures.served_or_failed m.move_rest.new.input m.move_rest.ensures,
         are_bytes g b,
       );
-      fact = round_served a.long a.offset a.held a.input.now a.got k.count-n.result e.end_of-end.result e.end_of-end.new.input
+      served_or_failed = round_served a.long a.offset a.held a.input.now a.got k.count-n.result e.end_of-end.result e.end_of-end.new.input
           (start g b).requires.0 (count g k) e.end_of-end.ensures.0 e.end_of-end.ensures.1 d.answered-r.result d.answered-r.ensures.held_in_bounds
-          d.answered-r.ensures.fact (subst (λ (z : ℤ). lt_z z (pos 0) ≡ false) (bits g b) (told g k).if-got-lt0.false);
+          d.answered-r.ensures.served_or_failed (subst (λ (z : ℤ). lt_z z (pos 0) ≡ false) (bits g b) (told g k).if-got-lt0.false);
     }

@@ -68,7 +68,7 @@ step g o =
     let fits : SFits w64 c.read_part-got.result = search rules in
     let bits = to_z-of_z w64 c.read_part-got.result fits in
     read_step laws 65536 (began g o) (left g o) l.input c.read_part-got.new.part (after g o) c.read_part-got.result (answer g c) l.invariant.2
-    (omega (arith, small)) l.invariant.0 c.read_part-got.auto.part bits c.read_part-got.ensures.room o.one_round-r.ensures.input_after.1 o.one_round-r.ensures.fact o.one_round-r.ensures.input_after.0
+    (omega (arith, small)) l.invariant.0 c.read_part-got.auto.part bits c.read_part-got.ensures.room o.one_round-r.ensures.what_waits.1 o.one_round-r.ensures.served_or_failed o.one_round-r.ensures.what_waits.0
 
 pub loop-r-init : goal.loop-r-init
 loop-r-init g c =

@@ -123,10 +123,10 @@ called : (c : T)
 called c =
     let a = core (again (read-event (asked_by c))) in
     let t = c.turn-answer.ensures in (
-      whole-answer _ _ _ _ t.reply_value t.core_value.0
+      whole-answer _ _ _ _ t.reply_is t.core_is.0
           ∙ ap (λ (m : Moment). turned a m c.change_of-change.result) c.time_of-now.ensures
           ∙ ap (turned a (time_of (event (asked_by c)))) c.change_of-change.ensures,
-      t.core_value.1,
+      t.core_is.1,
     )
 
 -- the place where the size of its record is known
@@ -151,7 +151,7 @@ pub shape_of-out-then-out-written-lt-LONGEST_LINE : goal.shape_of-out-then-out-w
 shape_of-out-then-out-written-lt-LONGEST_LINE c = (going (goal.at.shape_of-out-then-out-written-lt-LONGEST_LINE c).At-loop-used).size
 
 pub returns-then-out-written-lt-LONGEST_LINE : goal.returns-then-out-written-lt-LONGEST_LINE
-returns-then-out-written-lt-LONGEST_LINE c = let both = going-full _ _ _ _ _ _ _ _ _ (going (goal.at.returns-then-out-written-lt-LONGEST_LINE c).At-loop-used) c.if-out-written-lt-LONGEST_LINE.true in record { value = both.0; out_after = both.1.0; used_in_bounds = both.1.1 }
+returns-then-out-written-lt-LONGEST_LINE c = let both = going-full _ _ _ _ _ _ _ _ _ (going (goal.at.returns-then-out-written-lt-LONGEST_LINE c).At-loop-used) c.if-out-written-lt-LONGEST_LINE.true in record { handed_back = both.0; out_after = both.1.0; used_in_bounds = both.1.1 }
 
 pub shape_of-out-then-waits : goal.shape_of-out-then-waits
 shape_of-out-then-waits c = (going (again (read_no (goal.at.shape_of-out-then-waits c).After-refusal_of-refusal))).size
@@ -161,7 +161,7 @@ returns-then-waits c =
     let n = (goal.at.returns-then-waits c).After-refusal_of-refusal in
     let r = read_no n in
     let both = going-waits _ _ _ _ _ _ _ _ _ (going (again r)) n.refusal_of-refusal.result (some_left r) (some-room r) (refused n)
-    (sym c.waits.ensures ∙ c.if-waits.true) in record { value = both.0; out_after = both.1.0; used_in_bounds = both.1.1 }
+    (sym c.waits.ensures ∙ c.if-waits.true) in record { handed_back = both.0; out_after = both.1.0; used_in_bounds = both.1.1 }
 
 pub put_line-written-requires : goal.put_line-written-requires
 put_line-written-requires c = omega (arith, some-room (read_no (goal.at.put_line-written-requires c).After-refusal_of-refusal))
@@ -177,7 +177,7 @@ returns-in_default c =
     let r = read_no n in
     let p = c.put_line-written.ensures in
     let both = going-stops _ _ _ _ _ _ _ _ _ (going (again r)) n.refusal_of-refusal.result (some_left r) (some-room r) (refused n) _ _
-    (sym c.waits.ensures ∙ c.if-waits.false) p.0 p.1 in record { value = both.0; out_after = both.1.0; used_in_bounds = both.1.1 }
+    (sym c.waits.ensures ∙ c.if-waits.false) p.0 p.1 in record { handed_back = both.0; out_after = both.1.0; used_in_bounds = both.1.1 }
 
 pub turn-answer-requires : goal.turn-answer-requires
 turn-answer-requires c = (going (again (read-event (goal.at.turn-answer-requires c).In-Event))).valid
@@ -218,4 +218,4 @@ pub shape_of-out : goal.shape_of-out
 shape_of-out c = (going (goal.at.shape_of-out c).At-loop-used).size
 
 pub returns : goal.returns
-returns c = let both = going_end _ _ _ _ _ _ _ _ _ (going (goal.at.returns c).At-loop-used) c.loop-used-test.false in record { value = both.0; out_after = both.1.0; used_in_bounds = both.1.1 }
+returns c = let both = going_end _ _ _ _ _ _ _ _ _ (going (goal.at.returns c).At-loop-used) c.loop-used-test.false in record { handed_back = both.0; out_after = both.1.0; used_in_bounds = both.1.1 }

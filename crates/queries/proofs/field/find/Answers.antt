@@ -1,12 +1,13 @@
-use Rattle.std.proofs.Common.{arith, refl}
-use Rattle.queries.proofs.Pieces.{here, further, at_end_lem}
+-- `find` is the library's search in what stands behind `from`. Assumes nothing.
+use Rattle.std.proofs.Common.{ap, ◌+◌, rules, tests, eqb, ℕ}
+use Rattle.std.proofs.lemmas.Iterator.{YieldsList-from_slice}
+use Rattle.std.proofs.lemmas.Iterator.Search.{position_from_yields_List}
+use Rattle.queries.proofs.Pieces.{found_behind}
 use Rattle.queries.proofs.field.find.Goals as goal
 
-pub returns-then-s-k : goal.returns-then-s-k
-returns-then-s-k c = omega (arith, here c.args.byte c.args.s.now c.loop-k.k (omega arith) c.if-s-k.true)
-
-pub loop-k-preserved : goal.loop-k-preserved
-loop-k-preserved c = (omega arith, omega (arith, further c.args.byte c.args.s.now c.loop-k.k (omega arith) c.if-s-k.false))
-
 pub returns : goal.returns
-returns c = omega (arith, at_end_lem c.args.byte c.args.s.now c.loop-k.k (omega arith))
+returns c =
+    ap (λ (n : ℕ). c.args.from + n) (found_behind c.args.byte c.args.s.now c.args.from _ _
+    (position_from_yields_List (λ y. eqb y c.args.byte) _ _ c.position.result c.position.ensures.ran (YieldsList-from_slice _ c.iter.ensures.rest)
+    (λ x b q k. search (rules, tests)))
+    c.unwrap_or.ensures)

@@ -63,10 +63,10 @@ returns-then-wide c =
     let n = (goal.at.returns-then-wide c).After-number-wide in
     let h : largest_tunnel < id n = ltb-true largest_tunnel (id n) (wide n _ c.if-wide.true-raw) in
     let s = wide_sought (core n) (valid n) (id n) h in record {
-      presence_value = (asked n).presence-presence.ensures.0 ∙ s.present;
-      presence_value_2 = remembered n;
-      vcpu_value = (asked n).vacant-vacant.ensures ∙ s.is;
-      boundary_value = s.boundary;
+      presence_is = (asked n).presence-presence.ensures.0 ∙ s.present;
+      remembered_until = remembered n;
+      vcpu_is = (asked n).vacant-vacant.ensures ∙ s.is;
+      boundary_is = s.boundary;
     }
 
 pub returns-then-nowhere : goal.returns-then-nowhere
@@ -74,10 +74,10 @@ returns-then-nowhere c =
     let n = numbered (goal.at.returns-then-nowhere c).After-find-at in
     let h : nowhere ≤ seek (id n) (core n).ids = leb-true nowhere _ (ap (leb nowhere) (sym c.find-at.ensures) ∙ c.if-nowhere.true-raw) in
     let s = absent-sought (core n) (valid n) (id n) (narrow (goal.at.returns-then-nowhere c).After-find-at) h in record {
-      presence_value = (asked n).presence-presence.ensures.0 ∙ s.present;
-      presence_value_2 = remembered n;
-      vcpu_value = (asked n).vacant-vacant.ensures ∙ s.is;
-      boundary_value = s.boundary;
+      presence_is = (asked n).presence-presence.ensures.0 ∙ s.present;
+      remembered_until = remembered n;
+      vcpu_is = (asked n).vacant-vacant.ensures ∙ s.is;
+      boundary_is = s.boundary;
     }
 
 pub returns : goal.returns
@@ -89,8 +89,8 @@ returns c =
     let at : get_or (core n).places f.find-at.result unread ≡ get_or (core n).places (seek (id n) (core n).ids) unread = ap (λ (i : ℕ). get_or (core n).places i unread) f.find-at.ensures in
     let known = there-known (core n) (valid n) (id n) (narrow f) h in
     record {
-      presence_value = s.present;
-      presence_value_2 = known;
-      vcpu_value = at ∙ s.is;
-      boundary_value = c.boundary_said-boundary.ensures ∙ ap boundary_in at ∙ s.boundary;
+      presence_is = s.present;
+      remembered_until = known;
+      vcpu_is = at ∙ s.is;
+      boundary_is = c.boundary_said-boundary.ensures ∙ ap boundary_in at ∙ s.boundary;
     }

@@ -32,8 +32,8 @@ valid c = sound (core c) (start c).requires
 pub returns : goal.returns
 unfolding card
 returns c = record {
-  time_value = (refl, ap paper_holder (said c).holder-run.ensures ∙ holder-paper (core c) (valid c));
-  timer_value = (ap paper_timer (said c).timer_said-said.ensures ∙ paper-timer (timer_at (core c).timer.0), n-is (core c) (valid c));
-  remembered_value = ap (λ (m : Memory). m.count) (memory-is (core c) (valid c));
-  removed_value = (refl, refl);
+  time_and_holder = (refl, ap paper_holder (said c).holder-run.ensures ∙ holder-paper (core c) (valid c));
+  timer_and_vcpus = (ap paper_timer (said c).timer_said-said.ensures ∙ paper-timer (timer_at (core c).timer.0), n-is (core c) (valid c));
+  remembered_count = ap (λ (m : Memory). m.count) (memory-is (core c) (valid c));
+  removed_and_idle = (refl, refl);
 }

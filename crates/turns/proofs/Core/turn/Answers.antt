@@ -465,7 +465,7 @@ returns-in-Refuse c =
     (turned-refused (core j) (now j) (change j) c.in-Refuse.refusal (valid j)
     (refused-call (core j) (now j) (change j) (valid j) (at j) (sought j).named-at.ensures (memory j) (remembered j)
     v.judged-verdict.result v.judged-verdict.ensures
-    c.in-Refuse.refusal c.in-Refuse.is)) in record { reply_value = both.0; core_value = both.1 }
+    c.in-Refuse.refusal c.in-Refuse.is)) in record { reply_is = both.0; core_is = both.1 }
 
 pub idled-idle-requires : goal.idled-idle-requires
 idled-idle-requires c =
@@ -676,4 +676,4 @@ returns d =
     (charged (returned m)).idled-idle.result (idle_then (card (core j)) (now j).0) (idle-there (charged (returned m))) (pick c)
     (picked-there c) (timed c).timer_for-timer.result (timed c).timer_for-timer.ensures (held c).holder-run.result (held c).holder-run.ensures
     c.timer_said-said.result c.timer_said-said.ensures (returned m).loop-i.total.ticks (totalTold (ts j)) (swept (returned m)).sums
-    ∙ sym (turned-accepted (core j) (now j) (change j) (accept (accepted (charged (returned m)))))) in record { reply_value = both.0; core_value = both.1 }
+    ∙ sym (turned-accepted (core j) (now j) (change j) (accept (accepted (charged (returned m)))))) in record { reply_is = both.0; core_is = both.1 }

@@ -40,7 +40,7 @@ put_lines-size-requires c =
 pub returns-then-out-size : goal.returns-then-out-size
 returns-then-out-size c =
     let l = c.put_lines-size in
-    let both = no_room _ _ (text_of c.args.self) l.result (sheet-fits c.args.self c.requires) l.ensures c.args.out.now c.if-out-size.true in record { result_value = both.0; out_after = both.1 }
+    let both = no_room _ _ (text_of c.args.self) l.result (sheet-fits c.args.self c.requires) l.ensures c.args.out.now c.if-out-size.true in record { reply_is = both.0; out_after = both.1 }
 
 pub slice_bounds-lines-end : goal.slice_bounds-lines-end
 slice_bounds-lines-end c =
@@ -59,4 +59,4 @@ pub returns : goal.returns
 returns c =
     let l = c.put_lines-size in
     let both = has_room _ _ (text_of c.args.self) l.result (sheet-fits c.args.self c.requires) l.ensures c.args.out.now _ _
-    c.if-out-size.false c.put_text.ensures in record { result_value = both.0; out_after = both.1 }
+    c.if-out-size.false c.put_text.ensures in record { reply_is = both.0; out_after = both.1 }
