@@ -3,6 +3,7 @@ import os
 import queue
 import shutil
 import subprocess
+import time
 from concurrent.futures import ThreadPoolExecutor
 
 from source import ROOT
@@ -53,19 +54,20 @@ class Copy:
         shutil.copy(f"{ROOT}/crates.txt", self.root)
 
     def checked(self, crate, texts):
-        """What a check of the crate says where it has these texts, and its status; then the crate has its own again."""
+        """What a check of the crate says where it has these texts, its status and its seconds; then the crate has its own again."""
         folder = f"{self.root}/crates/{crate}"
         before = {path: open(f"{folder}/{path}", encoding="utf-8").read() for path in texts}
         written(folder, texts)
+        begun = time.monotonic()
         try:
             done = subprocess.run(["rt", "check", "--jobs", "1"], cwd=folder, capture_output=True, text=True, errors="replace", check=False)
         finally:
             written(folder, before)
-        return done.stdout + done.stderr, done.returncode
+        return done.stdout + done.stderr, done.returncode, time.monotonic() - begun
 
 
 def in_copies(folder, asked):
-    """What a check says of each (crate, texts), and its status, in that order: as many checks at a time as there are processors."""
+    """What `Copy.checked` gives of each (crate, texts), in that order: as many checks at a time as there are processors."""
     free = queue.SimpleQueue()
     jobs = max(1, min(len(asked), os.cpu_count() or 1))
     for number in range(jobs):

@@ -28,7 +28,7 @@ use Rattle.records.proofs.Written.{length-record}
 use Rattle.records.proofs.Cases.{short-header, unknown-tag, other_length, short-payload, whole-record, answers}
 use Rattle.records.proofs.Behind.{Case, header, unknown, other, short, whole, case}
 use Rattle.lines.specs.Serve.{time_of, change_of}
-use Rattle.lines.specs.Asked.{Asked, asking_of, ends, reads, asks, asked_after, sent}
+use Rattle.lines.specs.Asked.{asking_of, ends, reads, asks, asked_after, sent}
 use Rattle.lines.specs.Answers.{stops_at}
 use Rattle.lines.proofs.Reading.{some_bytes}
 

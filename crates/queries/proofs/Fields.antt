@@ -1,23 +1,22 @@
 -- The fields of a line, read one after the other: what was read, and what is left. Assumes nothing.
-use Prim.Native.Nat.{ℕ, zero, suc, ◌+◌, ◌-◌, ◌≤◌, ◌<◌}
-use mathlib.Core.Path.{◌≡◌, refl, ap, sym, ◌∙◌, subst}
+use Prim.Native.Nat.{ℕ, suc, ◌+◌, ◌≤◌, ◌<◌}
+use mathlib.Core.Path.{◌≡◌, refl, ap, sym, ◌∙◌}
 use mathlib.Core.Bool.{Bool, true, false, cond, not, ◌||◌}
 use mathlib.Core.List.{List, [], ◌∷◌}
 use mathlib.Core.Logic.{◌⊎◌, inl, inr}
 use native.Mathlib.Omega.{arith}
 use native.Mathlib.Nat.{add-zero}
 use native.Mathlib.Numerals.{add-one}
-use lib.Dec.{leb, ltb}
+use lib.Dec.{ltb}
 use lib.ListN.{length, get_or, drop, set, length-drop, length-set}
 use lib.Seq.{get_or-drop, drop-drop}
 use borrow.Author.Tests.{lt-ltb, le-ltb}
 use Rattle.model.proofs.Tests.{or_left, or_right, or-false, below-or-from}
 use Rattle.queries.specs.declared.ask.Word.{Word}
-use Rattle.queries.specs.declared.ask.Fields.{Fields}
 use Rattle.queries.specs.declared.field.Number.{Number}
 use Rattle.queries.specs.declared.field.Number.TheVariants.{Is, None}
 use Rattle.queries.specs.Meaning.{until, behind, too_many, is_number, first_bad}
-use Rattle.queries.specs.Private.{capped, number_read, kept_at, Kept, pieces_from, FieldsAre}
+use Rattle.queries.specs.Private.{capped, number_read, kept_at, pieces_from, FieldsAre}
 use Rattle.queries.proofs.Pieces.{end-inside, last_piece, next_piece}
 use Rattle.queries.proofs.Tasks.{stored_next}
 

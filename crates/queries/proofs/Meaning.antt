@@ -1,5 +1,5 @@
 -- What the parts of the code answer is what the line means. Assumes nothing.
-use Prim.Native.Nat.{ℕ, zero, suc, ◌+◌, ◌-◌, ◌≤◌, ◌<◌}
+use Prim.Native.Nat.{ℕ, suc, ◌+◌, ◌-◌, ◌≤◌, ◌<◌}
 use mathlib.Core.Path.{◌≡◌, refl, ap, sym, ◌∙◌, subst}
 use mathlib.Core.Bool.{Bool, true, false, cond, not, ◌||◌}
 use mathlib.Core.List.{List, [], ◌∷◌, map}
@@ -19,7 +19,7 @@ use Rattle.queries.specs.declared.ask.Spoken.TheVariants.{Known}
 use Rattle.queries.specs.Text.{said, bad_field, bad_line, line_of, longest, answer_in, Written}
 use Rattle.queries.specs.Meaning.{until, behind, spoken_of, is_number, heads, too_many, first_bad, asks, fields_mean, word_in, pieces_mean, is_aligned, bytes_mean, trimmed, line_means}
 use Rattle.queries.specs.Private.{pieces_from}
-use Rattle.queries.proofs.Pieces.{until-few, until-take, end-inside, piece_is, last_piece, next_piece}
+use Rattle.queries.proofs.Pieces.{until-take, piece_is, last_piece, next_piece}
 
 -- a query by its fields
 module _ (form : Form) (w : Word) (fs : List (List ℕ)) where

@@ -1,20 +1,19 @@
 -- A field read digit by digit: whether it is a number, and the number held to 9,999. Assumes nothing.
-use Prim.Native.Nat.{ℕ, zero, suc, ◌+◌, ◌-◌, ◌*◌, ◌≤◌, ◌<◌, min}
+use Prim.Native.Nat.{ℕ, suc, ◌+◌, ◌-◌, ◌*◌, ◌≤◌, ◌<◌, min}
 use mathlib.Core.Path.{◌≡◌, refl, ap, sym, ◌∙◌}
-use mathlib.Core.Bool.{Bool, true, false, cond, ◌&&◌}
+use mathlib.Core.Bool.{Bool, true, false, ◌&&◌}
 use mathlib.Core.List.{List, [], ◌∷◌}
 use native.Mathlib.Omega.{arith}
 use native.Mathlib.Numerals.{add-one}
-use lib.Dec.{leb, ltb, eqb}
-use lib.ListN.{length, get_or, drop, length-drop}
+use lib.Dec.{leb, ltb}
+use lib.ListN.{length, get_or, drop}
 use lib.Seq.{drop-cons}
-use borrow.Author.Tests.{lt-ltb, leb-true, leb-false, eq-eqb, ne_eqb}
+use borrow.Author.Tests.{lt-ltb, leb-true, leb-false}
 use Rattle.model.proofs.Tests.{and_right}
 use Rattle.text.specs.Text.{number_from}
 use Rattle.text.proofs.Same.{none_left}
-use Rattle.queries.specs.declared.field.Number.{Number}
 use Rattle.queries.specs.declared.field.Number.TheVariants.{Is, None}
-use Rattle.queries.specs.Meaning.{is_digit, all_digits, is_number}
+use Rattle.queries.specs.Meaning.{is_digit, all_digits}
 use Rattle.queries.specs.Private.{with_digit, capped, number_read}
 
 -- more digits make no number smaller

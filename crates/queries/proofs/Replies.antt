@@ -2,7 +2,7 @@
 -- refuses both. Assumes nothing.
 use Prim.Native.Nat.{ℕ, zero, suc, ◌+◌, ◌-◌, ◌*◌, ◌/◌, ◌≤◌, ◌<◌}
 use mathlib.Core.Path.{◌≡◌, refl, ap, sym, ◌∙◌, subst}
-use mathlib.Core.Bool.{Bool, true, false, ◌&&◌}
+use mathlib.Core.Bool.{Bool, true, false}
 use mathlib.Core.List.{List, [], ◌∷◌, map}
 use mathlib.Core.Logic.{◌⊎◌, inl, inr, ⊎_elim}
 use native.Mathlib.Omega.{arith}
@@ -12,7 +12,7 @@ use lib.ListN.{length, get_or, take, drop, length-drop, length-map, get_or-map}
 use lib.Seq.{get_or-take, get_or-drop, length-take-le}
 use borrow.Author.Tests.{lt-leb}
 use Rattle.model.specs.Form.{Form}
-use Rattle.model.specs.Asked.{Work, reply_to}
+use Rattle.model.specs.Asked.{reply_to}
 use Rattle.model.specs.Reply.{Reply}
 use Rattle.model.specs.Rows.{miscounted, tasks_rows, demand_reply, check_reply, least_reply, best_reply}
 use Rattle.model.proofs.Tests.{and_right, below-or-from}
@@ -21,7 +21,7 @@ use Rattle.text.specs.Text.{number}
 use Rattle.queries.specs.declared.ask.Word.{Word}
 use Rattle.queries.specs.declared.ask.Word.TheVariants.{Supply, Demand, Check, Least, Best}
 use Rattle.queries.specs.Text.{line_of}
-use Rattle.queries.specs.Meaning.{heads, every_other, question, tasks, asks}
+use Rattle.queries.specs.Meaning.{heads, every_other, question, asks}
 use Rattle.queries.specs.Private.{Kept, periods_of, costs_of, EveryOther, Answers}
 use Rattle.queries.proofs.Alike.{Alike, alike-kept, supply-alike}
 use Rattle.queries.proofs.AlikeTasks.{Alikes, demand-alike, check-alike, least-alike, best-alike}

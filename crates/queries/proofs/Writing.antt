@@ -1,11 +1,11 @@
 -- An answer's text, put in parts. Assumes nothing.
 use Prim.Native.Nat.{ℕ, zero, suc, ◌+◌, ◌≤◌}
-use mathlib.Core.Path.{◌≡◌, refl, ap, sym, ◌∙◌}
+use mathlib.Core.Path.{◌≡◌, refl, ap, sym}
 use mathlib.Core.List.{List, [], ◌∷◌, ◌++◌, map}
 use native.Mathlib.Omega.{arith}
 use lib.ListN.{length, take}
-use Rattle.text.specs.Text.{decimal, fields, end_in, field_in, text_in, Put}
-use Rattle.text.proofs.Writing.{put_as, put_two, put-size, end-put, field_put, text-put}
+use Rattle.text.specs.Text.{decimal, fields, end_in, field_in, Put}
+use Rattle.text.proofs.Writing.{put_as, put_two, put-size, end-put, field_put}
 use Rattle.queries.specs.declared.answers.Head.{Head}
 use Rattle.queries.specs.declared.answers.Head.TheVariants.{Ok, No, BadWord, BadField, BadLine, Help}
 use Rattle.queries.specs.Text.{help}

@@ -13,7 +13,7 @@ use Rattle.rules.proofs.Tests.{clash}
 use Rattle.rules.specs.Change.{admit, wake, block, remove}
 use Rattle.records.specs.declared.answers.Read.{Read}
 use Rattle.records.specs.declared.answers.Read.TheVariants.{Event as Got, No}
-use Rattle.records.specs.Bytes.{AreBytes, number}
+use Rattle.records.specs.Bytes.{AreBytes}
 use Rattle.records.specs.Record.{event, no, known, payload, reading, waits}
 use Rattle.records.specs.Record.{tag, length_said, time, identifier, description, asked, call}
 use Rattle.records.specs.Answer.{read_said, read_spec}

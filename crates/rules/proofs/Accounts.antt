@@ -3,7 +3,6 @@
 use mathlib.Core.Path.{◌≡◌, refl, ap, sym, ◌∙◌, subst}
 use mathlib.Core.Bool.{Bool, true, false, cond, not, ◌&&◌}
 use mathlib.Core.List.{List, [], ◌∷◌, map}
-use mathlib.Core.Logic.{⊎_elim}
 use mathlib.Core.Option.{Option, none, some}
 use Prim.Native.Nat.{ℕ, zero, suc, ◌+◌, ◌-◌, ◌≤◌}
 use native.Mathlib.Omega.{arith}
@@ -11,26 +10,25 @@ use lib.Dec.{eqb}
 use lib.ListN.{length}
 use borrow.Author.Tests.{eqb-true}
 use Rattle.rules.specs.Lists.{keep, count, sum, All, Among}
-use Rattle.rules.specs.Vcpu.{Description, Vcpu, admitted, more_urgent, named}
-use Rattle.rules.specs.Remember.{Remembered, kept}
+use Rattle.rules.specs.Vcpu.{Vcpu, admitted, more_urgent, named}
 use Rattle.rules.specs.Card.{Card, find, to_named}
 use Rattle.rules.specs.Charge.{charged}
 use Rattle.rules.specs.Change.{Change, admit, wake, block, remove, tick, placed, set_runnable, change}
 use Rattle.rules.specs.Ledger.{idled, held_of, handed_over}
-use Rattle.rules.specs.Refuse.{Refusal, call_rows, naming_rows, refusal}
+use Rattle.rules.specs.Refuse.{Refusal, refusal}
 use Rattle.rules.specs.Turn.{Call, settled, after_return, accepted}
-use Rattle.rules.specs.History.{after, heard, time, holder, past, ticks, holds, is_idle, idle_ticks}
+use Rattle.rules.specs.History.{after, heard, time, past, ticks, holds, is_idle, idle_ticks}
 use Rattle.rules.specs.Stays.{Stay, lasts, lasts_as, with_end, stays, change_stays, held, held_ticks}
-use Rattle.rules.specs.Accounts.{has_ended, all_held, Totals, ended_at, Removal}
-use Rattle.rules.proofs.Tests.{clash, no-some, cases, and-true}
-use Rattle.rules.proofs.Named.{named-says, is-named, found, not_found}
-use Rattle.rules.proofs.Lists.{all_imp, all_among, among_all, count_among, count_none, some_one, map_among}
+use Rattle.rules.specs.Accounts.{has_ended, all_held, Totals}
+use Rattle.rules.proofs.Tests.{and-true}
+use Rattle.rules.proofs.Named.{named-says, found, not_found}
+use Rattle.rules.proofs.Lists.{all_imp, all_among, among_all, count_among, count_none}
 use Rattle.rules.proofs.Lists.{sum-map, sum-without, sum-none, sum_one, sum_same, sum_both}
 use Rattle.rules.proofs.ThreeKinds.{held-returned}
 use Rattle.rules.proofs.Accepted.{Passed, passed}
 use Rattle.rules.proofs.Held.{Dated, held_more, held-end, held_off}
 use Rattle.rules.proofs.Lawful.{Pair, Paired, Lawful}
-use Rattle.rules.proofs.Advance.{charged_if, stepped, each-stepped, held-charged, rows-stepped}
+use Rattle.rules.proofs.Advance.{charged_if, stepped, each-stepped, held-charged}
 use Rattle.rules.proofs.Reached.{Reached, reached, returned-lawful, there, told-by-card}
 use Rattle.rules.proofs.Reached.{card-refused, card-accepted, reply-refused, reply-accepted}
 

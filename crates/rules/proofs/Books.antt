@@ -1,27 +1,27 @@
 -- How an accepted call moves the totals beside the VCPUs, whatever calls came before; and that a VCPU's held total, as it stands at its
 -- removal, is what its stay held. Assumes nothing.
 use mathlib.Core.Path.{◌≡◌, refl, ap, sym, ◌∙◌, subst}
-use mathlib.Core.Bool.{Bool, true, false, cond, not}
-use mathlib.Core.List.{List, [], ◌∷◌, map}
+use mathlib.Core.Bool.{Bool, true, cond, not}
+use mathlib.Core.List.{List, ◌∷◌, map}
 use mathlib.Core.Logic.{inl}
 use mathlib.Core.Option.{Option, none, some}
-use Prim.Native.Nat.{ℕ, ◌+◌, ◌-◌, ◌≤◌}
+use Prim.Native.Nat.{ℕ, ◌+◌, ◌-◌}
 use native.Mathlib.Omega.{arith}
 use lib.Dec.{eqb}
 use borrow.Author.Tests.{eqb-true, not-false}
-use Rattle.rules.specs.Lists.{count, All, Among}
+use Rattle.rules.specs.Lists.{Among}
 use Rattle.rules.specs.Vcpu.{Vcpu, named}
 use Rattle.rules.specs.Remember.{kept}
-use Rattle.rules.specs.Card.{Card, on_card, find}
+use Rattle.rules.specs.Card.{Card, on_card}
 use Rattle.rules.specs.Change.{Change, admit, wake, block, remove, tick}
 use Rattle.rules.specs.Ledger.{idled, held_of, handed_over}
 use Rattle.rules.specs.Refuse.{above24_bits, call_rows, refusal}
 use Rattle.rules.specs.Turn.{Call, settled, after_return, accepted}
 use Rattle.rules.specs.Rows.{NoRow}
 use Rattle.rules.specs.Budgets.{Loses}
-use Rattle.rules.specs.History.{after, heard, time, past, ticks}
+use Rattle.rules.specs.History.{after, heard, past, ticks}
 use Rattle.rules.specs.Stays.{Stay, lasts, lasts_as, with_end, stays, change_stays, held, held_ticks}
-use Rattle.rules.specs.Accounts.{held_in, Books, ended_at, Removal}
+use Rattle.rules.specs.Accounts.{Books, ended_at, Removal}
 use Rattle.rules.proofs.Tests.{clash, and-true}
 use Rattle.rules.proofs.Named.{is-named, on_card_says, find-there}
 use Rattle.rules.proofs.Lists.{all_among, count_among, some_one, map_among}

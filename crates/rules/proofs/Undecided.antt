@@ -2,15 +2,15 @@
 -- Assumes nothing.
 use mathlib.Core.Path.{◌≡◌, refl, ap, sym, ◌∙◌}
 use mathlib.Core.Bool.{Bool, true, false, cond, not}
-use mathlib.Core.List.{List, [], ◌∷◌, ◌++◌, map}
+use mathlib.Core.List.{List, [], ◌∷◌, map}
 use mathlib.Core.Option.{Option, none, some}
-use Prim.Native.Nat.{ℕ, ◌+◌, ◌-◌}
-use lib.Dec.{leb, eqb}
-use lib.ListN.{length, length-map}
-use Rattle.rules.specs.Lists.{keep, any, sum}
-use Rattle.rules.specs.Vcpu.{Vcpu, times, admitted, more_urgent, named}
+use Prim.Native.Nat.{ℕ, ◌+◌}
+use lib.Dec.{leb}
+use lib.ListN.{length-map}
+use Rattle.rules.specs.Lists.{keep}
+use Rattle.rules.specs.Vcpu.{Vcpu, admitted, more_urgent, named}
 use Rattle.rules.specs.Remember.{Remembered, left_by, kept}
-use Rattle.rules.specs.Card.{Card, on_card, find, to_named}
+use Rattle.rules.specs.Card.{Card, on_card, find}
 use Rattle.rules.specs.Charge.{posted, no_ticks, charged_some, charged, charge}
 use Rattle.rules.specs.Return.{brought, brought_in, refilled, refill, returned, bring}
 use Rattle.rules.specs.Change.{Change, admit, wake, block, remove, tick, placed, set_runnable, change, leaving}
@@ -18,8 +18,8 @@ use Rattle.rules.specs.Choose.{ready, better, most_urgent, choose, runs, usable_
 use Rattle.rules.specs.Timer.{earliest, next, nexts, runnable, above, timer}
 use Rattle.rules.specs.Told.{Told, adds, tells, tell, total}
 use Rattle.rules.specs.Refuse.{Refusal, call_rows, refusal}
-use Rattle.rules.specs.Turn.{Call, Reply, Answer, ok, refused, report, turn, settled, accepted, reported, answered}
-use Rattle.rules.specs.Turn.{after_charge, after_return, after_change, remembered_then, told_by}
+use Rattle.rules.specs.Turn.{Call, Reply, ok, turn, settled, accepted, reported, answered}
+use Rattle.rules.specs.Turn.{after_charge, after_return, after_change}
 use Rattle.rules.proofs.Lists.{any_same}
 use Rattle.rules.specs.Accounts.{without_its, without_totals, SameButTotals, Undecided, with_others, with_totals}
 use Rattle.rules.specs.Accounts.{after_these, replies_to, NoDecision}

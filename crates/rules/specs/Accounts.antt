@@ -2,7 +2,7 @@
 -- accepted call moves the two beside the VCPUs; and that no reply depends on any. Proved in proofs/Accounts, Books and Undecided.
 -- Assumes nothing.
 use Rattle.std.specs.Prelude.{ℕ, ◌+◌, ◌-◌, ◌≡◌, Bool, not, List, [], ◌∷◌, map}
-use Rattle.std.proofs.Math.Option.{Option, none, some}
+use Rattle.std.proofs.Math.Option.{none, some}
 use Rattle.rules.specs.Lists.{keep, sum, All, Among}
 use Rattle.rules.specs.Vcpu.{Vcpu}
 use Rattle.rules.specs.Card.{Card}

@@ -1,6 +1,6 @@
 -- Document 01, step 5: the timer; with the boundaries of document 02, No. 1.
 -- Assumes nothing.
-use Rattle.std.specs.Prelude.{ℕ, ◌+◌, min, Bool, ◌&&◌, List, [], ◌∷◌, ◌++◌, map}
+use Rattle.std.specs.Prelude.{ℕ, ◌+◌, min, Bool, ◌&&◌, List, [], ◌∷◌, ◌++◌}
 use Rattle.std.proofs.Math.Option.{Option, none, some}
 use Rattle.rules.specs.Lists.{keep}
 use Rattle.rules.specs.Vcpu.{Vcpu, times, comes, more_urgent}

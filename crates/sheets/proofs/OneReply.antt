@@ -1,21 +1,13 @@
 -- Any two replies that the promise of a public function of `sheets` allows are equal, the bytes written included (`OneReply` of crate
 -- promise): the tasks tell valid sheets apart, and the paper's number and values the answers. Assumes nothing.
 use Prim.Native.Nat.{ℕ, ◌-◌}
-use mathlib.Core.Path.{◌≡◌, refl, ap, sym, ◌∙◌}
+use mathlib.Core.Path.{◌≡◌, ap, sym, ◌∙◌}
 use mathlib.Core.List.{List, [], ◌++◌}
 use native.Mathlib.Omega.{arith}
 use lib.ListN.{length, take, replicate, take-append-drop}
 use Rattle.promise.specs.OneReply.{OneReply, OneReplyAndBytes}
 use Rattle.model.specs.Asked.{Work}
 use Rattle.shares.specs.declared.answers.Refusal.{Refusal}
-use Rattle.shares.specs.declared.answers.Share.{Share}
-use Rattle.shares.specs.declared.answers.Verdict.{Verdict}
-use Rattle.shares.specs.declared.answers.Verdict.TheVariants.{Passes, Fails, No as NoVerdict}
-use Rattle.shares.specs.declared.answers.Budget.{Budget}
-use Rattle.shares.specs.declared.answers.Budget.TheVariants.{Least, No as NoBudget}
-use Rattle.shares.specs.declared.answers.Interface.{Interface}
-use Rattle.shares.specs.declared.answers.Interface.TheVariants.{Best, No as NoInterface}
-use Rattle.shares.specs.Paper.{paper_verdict, paper_budget, paper_interface}
 use Rattle.shares.proofs.OneReply.{same_verdict, same-budget, same_interface}
 use Rattle.sheets.specs.declared.answers.Lines.{Lines}
 use Rattle.sheets.specs.declared.answers.Lines.TheVariants.{Good, No as NoSheet}

@@ -21,12 +21,11 @@ use Rattle.turns.specs.declared.Core.{Core}
 use Rattle.turns.specs.declared.Change.{Change}
 use Rattle.turns.specs.Written.{card, core_of}
 use Rattle.turns.proofs.Invariant.{SoundCore, Between, between-at}
-use Rattle.turns.specs.declared.Reply.TheVariants.{No}
 use Rattle.turns.specs.Calls.{asked, call_of, turned, paper_reply}
 use Rattle.turns.specs.State.{Asking, made, calls_of, ValidCore}
 use Rattle.turns.specs.declared.Answer.{Answer}
 use Rattle.turns.proofs.Shape.{change-ranked}
-use Rattle.turns.proofs.Settle.{shown-again, core-sound, empty-shown, empty-sound, turned-refused}
+use Rattle.turns.proofs.Settle.{shown-again, core-sound, empty-shown, empty-sound}
 use Rattle.turns.proofs.Paper.{paper-said}
 
 -- an accepted call: the tenants handed back are those of the rules' card after one call more

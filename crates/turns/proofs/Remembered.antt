@@ -14,21 +14,19 @@ use borrow.Author.Tests.{eqb-true, eqb-false, eq-eqb, ne_eqb}
 use Rattle.units.specs.Units.{moment, tunnel}
 use Rattle.units.specs.declared.Moment.{Moment}
 use Rattle.units.specs.declared.Tunnel.{Tunnel}
-use Rattle.rules.specs.Lists.{keep, All}
-use Rattle.rules.specs.Vcpu.{Entry, times, comes}
+use Rattle.rules.specs.Lists.{keep}
+use Rattle.rules.specs.Vcpu.{comes}
 use Rattle.rules.specs.Vcpu.{Vcpu as Tenant}
-use Rattle.rules.specs.Remember.{Remembered, later, latest, leaves_until, remembering, is_kept, kept, time_of}
+use Rattle.rules.specs.Remember.{Remembered, latest, leaves_until, remembering, is_kept, kept, time_of}
 use Rattle.rules.proofs.Lists.{all_among, length-keep}
 use Rattle.rules.proofs.Memory.{recalled}
 use Rattle.turns.specs.declared.Memory.{Memory}
-use Rattle.turns.specs.declared.Vcpu.{Vcpu}
 use Rattle.turns.specs.Laid.{laid}
 use Rattle.turns.specs.Written.{never, nobody, written, timer_at, timer_of, slots, memories, id_of, until_of, memory_of}
-use Rattle.turns.specs.Steps.{head_of, latest_of}
-use Rattle.turns.specs.Remembered.{Fixed, Below, time_in, with_of, leaving_of}
+use Rattle.turns.specs.Steps.{latest_of}
+use Rattle.turns.specs.Remembered.{Fixed, Below, with_of, leaving_of}
 use Rattle.turns.proofs.Laid.{laid-get, laid_end, laid-length, front-get, front_vacate, front-end, front-all}
 use Rattle.turns.proofs.Written.{Formed, queue, refills}
-use Rattle.turns.proofs.Return.{first, head-written}
 use Rattle.turns.proofs.Choose.{Rises, Calm}
 
 slots-laid : (y : Tunnel) (z : Moment) (k : ℕ) (rs : List Remembered) → length rs ≤ k

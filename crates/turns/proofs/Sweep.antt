@@ -11,7 +11,7 @@ use lib.Dec.{leb, ltb}
 use lib.ListN.{length, take, get_or, set, replicate}
 use lib.Seq.{set-get_or, take-suc, take_all, length-take-le}
 use borrow.Author.Tests.{ltb-true, not-false}
-use Rattle.units.specs.Units.{moment, amount, tunnel}
+use Rattle.units.specs.Units.{moment, tunnel}
 use Rattle.units.specs.declared.Moment.{Moment}
 use Rattle.units.specs.declared.Tunnel.{Tunnel}
 use Rattle.rules.specs.Lists.{All, sum}
