@@ -50,7 +50,7 @@ class Copy:
 
     def __init__(self, folder):
         self.root = f"{folder}/project"
-        shutil.copytree(f"{ROOT}/crates", f"{self.root}/crates", ignore=shutil.ignore_patterns("out"))
+        shutil.copytree(f"{ROOT}/crates", f"{self.root}/crates", ignore=shutil.ignore_patterns("out", "must-fail"))
         shutil.copy(f"{ROOT}/crates.txt", self.root)
 
     def checked(self, crate, texts):
