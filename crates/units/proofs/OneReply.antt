@@ -6,10 +6,10 @@ use Rattle.units.proofs.Moment.new.Kinds as moment-new
 use Rattle.units.proofs.Moment.new.Reads as moment-new-promise
 use Rattle.units.proofs.Moment.ticks.Kinds as moment-ticks
 use Rattle.units.proofs.Moment.ticks.Reads as moment-ticks-promise
-use Rattle.units.proofs.Moment.before.Kinds as moment-before
-use Rattle.units.proofs.Moment.before.Reads as moment-before-promise
-use Rattle.units.proofs.Moment.same.Kinds as moment-same
-use Rattle.units.proofs.Moment.same.Reads as moment-same-promise
+use Rattle.units.proofs.MomentPartialOrd.partial_cmp.Kinds as moment-before
+use Rattle.units.proofs.MomentPartialOrd.partial_cmp.Reads as moment-before-promise
+use Rattle.units.proofs.MomentPartialEq.eq.Kinds as moment-same
+use Rattle.units.proofs.MomentPartialEq.eq.Reads as moment-same-promise
 use Rattle.units.proofs.Moment.plus.Kinds as moment-plus
 use Rattle.units.proofs.Moment.plus.Reads as moment-plus-promise
 use Rattle.units.proofs.Amount.new.Kinds as amount-new
@@ -26,22 +26,16 @@ use Rattle.units.proofs.Tunnel.new.Kinds as tunnel-new
 use Rattle.units.proofs.Tunnel.new.Reads as tunnel-new-promise
 use Rattle.units.proofs.Tunnel.number.Kinds as tunnel-number
 use Rattle.units.proofs.Tunnel.number.Reads as tunnel-number-promise
-use Rattle.units.proofs.Tunnel.below.Kinds as tunnel-below
-use Rattle.units.proofs.Tunnel.below.Reads as tunnel-below-promise
-use Rattle.units.proofs.Tunnel.same.Kinds as tunnel-same
-use Rattle.units.proofs.Tunnel.same.Reads as tunnel-same-promise
+use Rattle.units.proofs.TunnelPartialOrd.partial_cmp.Kinds as tunnel-below
+use Rattle.units.proofs.TunnelPartialOrd.partial_cmp.Reads as tunnel-below-promise
+use Rattle.units.proofs.TunnelPartialEq.eq.Kinds as tunnel-same
+use Rattle.units.proofs.TunnelPartialEq.eq.Reads as tunnel-same-promise
 
 pub moment-new-one : OneReply 0 moment-new.ps moment-new.r moment-new-promise.Post
 moment-new-one κs args a b x y p q = p ∙ sym q
 
 pub moment-ticks-one : OneReply 0 moment-ticks.ps moment-ticks.r moment-ticks-promise.Post
 moment-ticks-one κs args a b x y p q = p ∙ sym q
-
-pub moment-before-one : OneReply 0 moment-before.ps moment-before.r moment-before-promise.Post
-moment-before-one κs args a b x y p q = p ∙ sym q
-
-pub moment-same-one : OneReply 0 moment-same.ps moment-same.r moment-same-promise.Post
-moment-same-one κs args a b x y p q = p ∙ sym q
 
 pub moment_plus_one : OneReply 0 moment-plus.ps moment-plus.r moment-plus-promise.Post
 moment_plus_one κs args a b x y p q = p ∙ sym q
@@ -67,8 +61,15 @@ tunnel-new-one κs args a b x y p q = p ∙ sym q
 pub tunnel-number-one : OneReply 0 tunnel-number.ps tunnel-number.r tunnel-number-promise.Post
 tunnel-number-one κs args a b x y p q = p ∙ sym q
 
-pub tunnel-below-one : OneReply 0 tunnel-below.ps tunnel-below.r tunnel-below-promise.Post
+-- the order and the equality of moments and of identifiers, which are derived
+pub moment-before-one : OneReply 2 moment-before.ps moment-before.r moment-before-promise.Post
+moment-before-one κs args a b x y p q = p ∙ sym q
+
+pub moment-same-one : OneReply 2 moment-same.ps moment-same.r moment-same-promise.Post
+moment-same-one κs args a b x y p q = p ∙ sym q
+
+pub tunnel-below-one : OneReply 2 tunnel-below.ps tunnel-below.r tunnel-below-promise.Post
 tunnel-below-one κs args a b x y p q = p ∙ sym q
 
-pub tunnel-same-one : OneReply 0 tunnel-same.ps tunnel-same.r tunnel-same-promise.Post
+pub tunnel-same-one : OneReply 2 tunnel-same.ps tunnel-same.r tunnel-same-promise.Post
 tunnel-same-one κs args a b x y p q = p ∙ sym q
