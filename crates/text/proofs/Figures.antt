@@ -79,6 +79,21 @@ some-digits n fits = go (one-or-more n)
     go (inl h) = omega (arith, one-digit n h)
     go (inr h) = omega (arith, longer n h fits)
 
+-- one digit says a number below ten, and more digits one of ten or more
+pub at-most-one : (n : ℕ) → n < 2 ^ 64 → length (decimal n) ≤ 1 → n < 10
+at-most-one n fits few = go (one-or-more n)
+  where
+    go : (n < 10) ⊎ (10 ≤ n) → n < 10
+    go (inl h) = h
+    go (inr h) = absurd (omega (arith, longer n h fits, some-digits (n / 10) (omega arith)))
+
+pub several-digits : (n : ℕ) → 1 < length (decimal n) → 10 ≤ n
+several-digits n some = go (one-or-more n)
+  where
+    go : (n < 10) ⊎ (10 ≤ n) → 10 ≤ n
+    go (inl h) = absurd (omega (arith, one-digit n h))
+    go (inr h) = h
+
 pub two_digits : (n : ℕ) → 10 ≤ n → n < 100 → length (decimal n) ≡ 2
 two_digits n some few = omega (arith, longer n some (omega arith), one-digit (n / 10) (omega arith))
 
@@ -135,3 +150,8 @@ figures_say (suc k) n h = go (one-or-more n) (figures_say k (n / 10) ((div-lt_if
 -- the digits of a number say that number
 pub decimal-says : (n : ℕ) → n < 2 ^ 64 → number (decimal n) ≡ n
 decimal-says n h = figures_say 19 n (omega arith)
+
+-- how many digits a number has, by the tests of the code
+pub ruleset short_widths = (one-digit, two_digits, three_digits, four_digits)
+
+pub ruleset widths = (figures-length, longer_four, longer-eight, longer_twelve, longer_sixteen)

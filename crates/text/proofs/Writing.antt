@@ -8,11 +8,13 @@ use native.Mathlib.Omega.{arith}
 use native.Mathlib.Nat.{add-zero, zero-add, add-suc, suc-add}
 use native.Mathlib.Numerals.{add-one}
 use lib.Dec.{ltb}
-use lib.ListN.{length, take, get_or, set, length-append}
-use lib.Seq.{sets, sets-eq, length-sets, set_comm, take-suc, length-take-le}
+use lib.ListN.{length, set, length-append}
+use lib.Seq.{sets, sets-eq, length-sets, set_comm, take-length}
 use borrow.Author.Tests.{lt-ltb, le-ltb}
+use borrow.Rule.Slice.PartMut.{put_mid}
+use Rattle.std.proofs.lemmas.Slice.{put_mid-paste}
 use Rattle.text.specs.Text.{decimal, field_in, end_in, text_in, over, Put}
-use Rattle.text.proofs.Figures.{decimal-more, longer, figures-one, figures-length}
+use Rattle.text.proofs.Figures.{decimal-more, longer, figures-one, figures-length, several-digits, at-most-one}
 
 pub sets_append : (l : List ℕ) (i : ℕ) (xs ys : List ℕ) → sets l i (xs ++ ys) ≡ sets (sets l i xs) (i + length xs) ys
 sets_append l i [] ys = rw add-zero
@@ -23,9 +25,6 @@ put_two {o} {o₁} {o₂} {xs} {ys} {a} {b} {c} p q = record {
   behind = omega (arith, length-append xs ys, p.behind, q.behind);
   stored = q.stored ∙ rw (p.stored, p.behind, sets_append);
 }
-
-pub put_byte : (o : List ℕ) (a x : ℕ) → Put o a (x ∷ []) (set o a x) (a + 1)
-put_byte o a x = record { behind = omega arith; stored = refl }
 
 -- a store behind a text commutes with it
 sets_set : (l : List ℕ) (i j : ℕ) (xs : List ℕ) (x : ℕ) → i + length xs ≤ j → sets (set l j x) i xs ≡ set (sets l i xs) j x
@@ -47,6 +46,8 @@ last-digit o at i n some fits e =
 pub first-digit : (o : List ℕ) (at n : ℕ) → n < 10 → set o at (48 + n) ≡ sets o at (decimal n)
 first-digit o at n h = sym (ap (sets o at) (figures-one 19 n h))
 
+pub ruleset digits = (last-digit, first-digit, figures-length, longer, several-digits, at-most-one)
+
 -- a text at the start of a slice that has room for it
 pub put-over : {o o' xs : List ℕ} {n : ℕ} → n ≤ length o → Put o 0 xs o' n → o' ≡ over xs o
 put-over {o} {o'} {xs} {n} fits p = p.stored ∙ sets-eq xs o 0 (omega (arith, p.behind)) ∙ rw zero-add
@@ -67,22 +68,16 @@ put_letters o a x y = record { behind = omega arith; stored = rw add-one }
 pub put-size : {o o' xs : List ℕ} {a b : ℕ} → Put o a xs o' b → length o' ≡ length o
 put-size {o} {o'} {xs} {a} {b} p = ap length p.stored ∙ length-sets o a xs
 
--- one turn of the loop that puts a text
-pub put-again : (o o₁ text : List ℕ) (at k : ℕ) → k < length text → o₁ ≡ sets o at (take k text)
-    → set o₁ (at + k) (get_or text k 0) ≡ sets o at (take (k + 1) text)
-put-again o o₁ text at k h e =
-    let m : length (take k text) ≡ k = length-take-le k text (omega arith) in
-    rw (add-one, take-suc text k 0) (rw (sets_append, m, e))
+-- a part of a slice that is written whole
+pub put_part : (o xs : List ℕ) (a k : ℕ) {ys : List ℕ} → a + length xs ≤ length o → k ≡ length xs → ys ≡ xs
+    → Put o a xs (put_mid a k o ys) (a + length xs)
+put_part o xs a k {ys} room all same =
+    let part = put_mid-paste a k o ys xs (length xs) same (sym all) refl in
+    record { behind = refl; stored = part ∙ rw (take-length xs) (sym (sets-eq xs o a room)) }
 
--- where there is no room nothing is put, and else all
-pub put_full : (o : List ℕ) (a m : ℕ) (xs : List ℕ) → length o < m → Put o a (cond (ltb (length o) m) [] xs) o a
-put_full o a m xs full = rw (lt-ltb (length o) m full) (record { behind = omega arith; stored = refl })
-
+-- where there is room all is put
 pub room_fits : (o : List ℕ) (m : ℕ) (xs : List ℕ) → m ≤ length o → cond (ltb (length o) m) [] xs ≡ xs
 room_fits o m xs room = rw (le-ltb (length o) m room)
-
-pub end-full : (o : List ℕ) (a : ℕ) → length o ≤ a → Put o a (end_in o a) o a
-end-full o a full = rw (le-ltb a (length o) full) (record { behind = omega arith; stored = refl })
 
 pub end_fits : (o : List ℕ) (a : ℕ) → a < length o → end_in o a ≡ 10 ∷ []
 end_fits o a room = rw (lt-ltb a (length o) room)

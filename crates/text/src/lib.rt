@@ -1,5 +1,5 @@
 // What the lines of the programs are made of: a text, a number in decimal behind a space, and the newline at the end; and whether
-// bytes are those of a word.
+// bytes are those of a word. Each puts at a place in lent memory and gives the place behind, as `Put` states it, whether or not it has room.
 #![tactic(auto)]
 
 ghost use Rattle.std.specs.Prelude.{◌+◌, ◌≤◌, ◌<◌, ◌≡◌, length};
@@ -9,6 +9,7 @@ ghost use Rattle.text.specs.Text.{decimal, same, field_in, end_in, text_in, Put}
 const LONGEST_FIELD: usize = 21;
 
 // How many digits a number below 10,000 has.
+#[tactic(auto, using(crate::proofs::Figures::short_widths))]
 fn short_width(n: u64) -> usize
     requires { n < 10000 }
     ensures { result ≡ length (decimal n) }
@@ -26,6 +27,7 @@ fn short_width(n: u64) -> usize
 }
 
 // How many digits a number has; found by tests, since a loop of divisions would double the time of a line.
+#[tactic(auto, using(crate::proofs::Figures::widths))]
 fn width(n: u64) -> usize
     ensures { result ≡ length (decimal n) }
 {
@@ -44,16 +46,15 @@ fn width(n: u64) -> usize
     16 + short_width(n / 10000000000000000)
 }
 
-// The digits from the last to the first.
+// The digits from the last to the first; by hand, since `write!` makes a line three times as slow.
+#[tactic(auto, using(crate::proofs::Writing::digits))]
 fn put_digits(out: &mut [u8], at: usize, n: u64) -> usize
     requires { at + 20 ≤ length out.old }
     ensures { Put out.old at (decimal n) out.new result }
 {
     let end = at + width(n);
-    let mut i = end;
     let mut rest = n;
-    while 10 <= rest {
-        i -= 1;
+    for i in (at + 1..end).rev() {
         out[i] = b'0' + (rest % 10) as u8;
         rest /= 10;
     }
@@ -87,6 +88,7 @@ pub fn put_end(out: &mut [u8], at: usize) -> usize
 }
 
 // A text at the place `at`, and the place behind it; nothing, and `at` itself, where it has no room.
+#[tactic(auto, using(crate::proofs::Writing::put_part))]
 pub fn put_text(out: &mut [u8], at: usize, text: &[u8]) -> usize
     ensures { Put out.old at (text_in out.old at text.now) out.new result }
 {
@@ -96,27 +98,14 @@ pub fn put_text(out: &mut [u8], at: usize, text: &[u8]) -> usize
     if out.len() - at < text.len() {
         return at;
     }
-    let mut k = 0;
-    while k < text.len() {
-        out[at + k] = text[k];
-        k += 1;
-    }
-    at + k
+    let end = at + text.len();
+    out[at..end].copy_from_slice(text);
+    end
 }
 
 // Whether the bytes are those of a word.
 pub fn is_same(s: &[u8], word: &[u8]) -> bool
     ensures { result ≡ same s.now word.now }
 {
-    if s.len() != word.len() {
-        return false;
-    }
-    let mut k = 0;
-    while k < s.len() {
-        if s[k] != word[k] {
-            return false;
-        }
-        k += 1;
-    }
-    true
+    s == word
 }

@@ -1,5 +1,4 @@
--- `put_digits` puts the digits from the last to the first. The invariant: putting the rest of the number gives the whole; the measure is
--- the rest. Assumes nothing.
+-- `put_digits` puts the digits from the last to the first. The invariant: putting the rest of the number gives the whole. Assumes nothing.
 use Prim.Native.Nat.{◌+◌, ◌^◌, ◌<◌}
 use mathlib.Core.Path.{◌≡◌}
 use lib.Seq.{sets}
@@ -7,10 +6,7 @@ use lib.ListN.{length}
 use Rattle.text.specs.Text.{decimal}
 use Rattle.text.proofs.put_digits.Given as goal
 
-abbrev pub invariant-loop-rest : goal.invariant-loop-rest
-invariant-loop-rest l =
+abbrev pub invariant-loop-i : goal.invariant-loop-i
+invariant-loop-i l =
     (l.i ≡ l.at + length (decimal l.rest)) × (l.rest < 2 ^ 64) × (length l.out ≡ length l.initial.out)
     × (sets l.out l.at (decimal l.rest) ≡ sets l.initial.out l.at (decimal l.n))
-
-abbrev pub decreases-loop-rest : goal.decreases-loop-rest
-decreases-loop-rest l = l.rest
