@@ -11,9 +11,14 @@ OneReply n ps r Promise =
     (κs : Lfts n) (args : Dens κs ps) (a b : (res_t r κs).Denot) (x y : AtExit (ended_of n ps r) κs)
     → Promise κs args a x → Promise κs args b y → a ≡ b
 
--- and so are the bytes left in a slice that was lent to be written, which `left` reads at the exit
-abbrev pub OneReplyAndBytes : (n : ℕ) (ps : List (ParamKind n)) (r : ResultKind n) → Out n ps r
-    → ((κs : Lfts n) → AtExit (ended_of n ps r) κs → List ℕ) → Type 0
-OneReplyAndBytes n ps r Promise left =
+-- and so is what is left of what was lent to be written, which `left` reads at the exit
+abbrev pub OneReplyAndLeft : {L : Type 0} (n : ℕ) (ps : List (ParamKind n)) (r : ResultKind n) → Out n ps r
+    → ((κs : Lfts n) → AtExit (ended_of n ps r) κs → L) → Type 0
+OneReplyAndLeft n ps r Promise left =
     (κs : Lfts n) (args : Dens κs ps) (a b : (res_t r κs).Denot) (x y : AtExit (ended_of n ps r) κs)
     → Promise κs args a x → Promise κs args b y → (a ≡ b) × (left κs x ≡ left κs y)
+
+-- .., where that is the bytes of a slice
+abbrev pub OneReplyAndBytes : (n : ℕ) (ps : List (ParamKind n)) (r : ResultKind n) → Out n ps r
+    → ((κs : Lfts n) → AtExit (ended_of n ps r) κs → List ℕ) → Type 0
+OneReplyAndBytes n ps r Promise left = OneReplyAndLeft n ps r Promise left
