@@ -1,23 +1,12 @@
 -- The bytes that reads bring: as many as they answer, and bytes all. Assumes nothing.
-use Prim.Native.Nat.{ℕ, zero, suc, ◌+◌, ◌≤◌}
-use mathlib.Core.Path.{◌≡◌, ap, ◌∙◌, subst}
-use mathlib.Core.List.{List, [], ◌∷◌, ◌++◌}
-use native.Mathlib.Omega.{arith}
-use lib.IntN.{ℤ, pos}
-use lib.ListN.{length, take, drop, length-take}
-use lib.Seq.{get_or-drop}
-use Rattle.io.specs.Counts.{clamp_len}
-use Rattle.reads.specs.Reads.{Moved, Bytes, Read, brought, came}
+use Rattle.std.proofs.Common.{◌≡◌, ℕ, zero, suc, ◌≤◌, List, [], ◌∷◌, ◌++◌, length, take, length-take, ap, ◌∙◌, subst, arith, Option, Some}
+use Rattle.reads.specs.Reads.{Bytes, Moved, Read, count_of, brought, came}
 
 -- a read that answers k brings k bytes
-pub brings : (x : Read) (k : ℕ) → x.got ≡ pos k → length (brought x) ≡ k
+pub brings : (x : Read) (k : ℕ) → x.got ≡ Some k → length (brought x) ≡ k
 brings x k e =
     let few : k ≤ length x.part = subst (Moved (length x.part)) e x.in_room in
-    ap (λ (z : ℤ). length (take (clamp_len z (length x.part)) x.part)) e
-    ∙ omega (arith, length-take (clamp_len (pos k) (length x.part)) x.part)
-
-pub bytes-behind : (n : ℕ) (l : List ℕ) → Bytes l → Bytes (drop n l)
-bytes-behind n l h i = rw (get_or-drop n l i 0) (h (n + i))
+    ap (λ (z : Option ℕ). length (take (count_of z) x.part)) e ∙ omega (arith, length-take k x.part)
 
 pub bytes-before : (n : ℕ) (l : List ℕ) → Bytes l → Bytes (take n l)
 bytes-before zero l h i = omega arith
@@ -33,4 +22,4 @@ bytes_both (b ∷ l) k h g (suc i) = bytes_both l k (λ n. h (suc n)) g i
 pub came-bytes : (reads : List Read) → Bytes (came reads)
 came-bytes [] = λ i. omega arith
 came-bytes (x ∷ before) =
-    bytes_both (came before) (brought x) (came-bytes before) (bytes-before (clamp_len x.got (length x.part)) x.part x.are_bytes)
+    bytes_both (came before) (brought x) (came-bytes before) (bytes-before (count_of x.got) x.part x.are_bytes)

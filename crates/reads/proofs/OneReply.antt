@@ -2,13 +2,13 @@
 -- promise). Assumes nothing.
 use mathlib.Core.Path.{refl, sym, ◌∙◌}
 use Rattle.promise.specs.OneReply.{OneReply, OneReplyAndBytes}
-use Rattle.reads.proofs.standing_of.Kinds as standing_of
-use Rattle.reads.proofs.standing_of.Reads as standing-of-promise
+use Rattle.reads.proofs.machine.ends_by.Kinds as ends_by
+use Rattle.reads.proofs.machine.ends_by.Reads as ends-by-promise
 use Rattle.reads.proofs.move_rest.Kinds as move-rest
 use Rattle.reads.proofs.move_rest.Reads as move-rest-promise
 
-pub standing_of_one : OneReply 0 standing_of.ps standing_of.r standing-of-promise.Post
-standing_of_one κs args a b x y p q = p ∙ sym q
+pub ends_by_one : OneReply 0 ends_by.ps ends_by.r ends-by-promise.Post
+ends_by_one κs args a b x y p q = p ∙ sym q
 
 pub move_rest_one : OneReplyAndBytes 1 move-rest.ps move-rest.r move-rest-promise.Post (λ κs x. x.0.now)
 move_rest_one κs args a b x y p q = (refl, p ∙ sym q)

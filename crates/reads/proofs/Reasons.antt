@@ -1,89 +1,64 @@
--- What a program's standing tells: which of the reasons to end applied. Assumes nothing.
-use Prim.Native.Nat.{ℕ, ◌^◌, ◌≤◌, ◌<◌}
-use mathlib.Core.Path.{◌≡◌, refl, ap, sym, ◌∙◌, subst}
-use mathlib.Core.Bool.{Bool, true, false, cond}
-use mathlib.Core.List.{[], ◌∷◌}
-use native.Mathlib.Omega.{arith}
-use lib.Dec.{leb}
+-- What it tells that a program ends: which of the reasons to end applied. Assumes nothing.
+use Rattle.std.proofs.Common.{◌≡◌, ℕ, ◌^◌, ◌≤◌, ◌<◌, Bool, true, false, cond, leb, refl, ap, sym, ◌∙◌, arith, Option, Some, None}
 use borrow.Author.Tests.{leb-true, leb-false}
-use denote.Enum.Declared.{tag_of}
-use types.Run.{OneOf, miss}
-use Rattle.reads.specs.declared.Standing.{Standing}
-use Rattle.reads.specs.declared.Standing.TheVariants.{GoesOn, EndOfInput, Refused, ReadFailed, WriteFailed, ByteLimit}
-use Rattle.reads.specs.Reads.{most_bytes, standing}
-use Rattle.reads.specs.contracts.Standing.{the_type}
+use Rattle.reads.specs.declared.machine.End.{End}
+use Rattle.reads.specs.declared.machine.End.TheVariants.{EndOfInput, Refused, ReadFailed, WriteFailed, ByteLimit}
+use Rattle.reads.specs.Reads.{most_bytes}
+use Rattle.reads.specs.Machine.{ends_by}
 
--- each case of the enum is another
-abbrev pub number : Standing → ℕ
-number GoesOn = 0
-number EndOfInput = 1
-number Refused = 2
-number ReadFailed = 3
-number WriteFailed = 4
-number ByteLimit = 5
+-- no two of these are equal
+abbrev pub number : Option End → ℕ
+number None = 0
+number (Some EndOfInput) = 1
+number (Some Refused) = 2
+number (Some ReadFailed) = 3
+number (Some WriteFailed) = 4
+number (Some ByteLimit) = 5
 
--- what holds of the standing where neither a refusal nor the end applies
-limit_or_on : (P : Standing → Type 0) (offset : ℕ) → (most_bytes ≤ offset → P ByteLimit) → (offset < most_bytes → P GoesOn)
-    → P (cond (leb most_bytes offset) ByteLimit GoesOn)
-limit_or_on P offset limit on = go (leb most_bytes offset) refl
+-- what holds where the machine has no reason of its own, since it holds where its reason applies
+pub each-reason : (P : Option End → Type 0) (last : Bool) (offset : ℕ) → (last ≡ true → P (Some EndOfInput))
+    → (last ≡ false → most_bytes ≤ offset → P (Some ByteLimit)) → (last ≡ false → offset < most_bytes → P None)
+    → P (ends_by None last offset)
+each-reason P true offset end limit on = end refl
+each-reason P false offset end limit on = go (leb most_bytes offset) refl
   where
-    go : (t : Bool) → leb most_bytes offset ≡ t → P (cond t ByteLimit GoesOn)
-    go true t = limit (leb-true most_bytes offset t)
-    go false t = on (leb-false most_bytes offset t)
-
--- what holds of every standing after lines that were written, since it holds where its reason applies
-each-reason : (P : Standing → Type 0) (stopped last : Bool) (offset : ℕ) → (stopped ≡ true → P Refused)
-    → (stopped ≡ false → last ≡ true → P EndOfInput) → (stopped ≡ false → last ≡ false → most_bytes ≤ offset → P ByteLimit)
-    → (stopped ≡ false → last ≡ false → offset < most_bytes → P GoesOn) → P (standing true stopped last offset)
-each-reason P true last offset refused end limit on = refused refl
-each-reason P false true offset refused end limit on = end refl refl
-each-reason P false false offset refused end limit on = limit_or_on P offset (limit refl refl) (on refl refl)
+    go : (t : Bool) → leb most_bytes offset ≡ t → P (cond t (Some ByteLimit) None)
+    go true t = limit refl (leb-true most_bytes offset t)
+    go false t = on refl (leb-false most_bytes offset t)
 
 -- what it takes to go on
-pub goes_when : (stopped last : Bool) (offset : ℕ) → standing true stopped last offset ≡ GoesOn
-    → (stopped ≡ false) × (last ≡ false) × (offset < most_bytes)
-goes_when stopped last offset =
-    each-reason (λ (s : Standing). s ≡ GoesOn → (stopped ≡ false) × (last ≡ false) × (offset < most_bytes)) stopped last offset
-    (λ a h. absurd (omega (arith, ap number h))) (λ a b h. absurd (omega (arith, ap number h)))
-    (λ a b c h. absurd (omega (arith, ap number h))) (λ a b c h. (a, b, c))
+pub goes_when : (end : Option End) (last : Bool) (offset : ℕ) → ends_by end last offset ≡ None → (end ≡ None) × (last ≡ false) × (offset < most_bytes)
+goes_when (Some e) last offset h = let z : ◌≡◌ {A = Option End} None (Some e) = sym h in cc
+goes_when None last offset h =
+    each-reason (λ (e : Option End). e ≡ None → (◌≡◌ {A = Option End} None None) × (last ≡ false) × (offset < most_bytes)) last offset
+    (λ a h. absurd (omega (arith, ap number h))) (λ a b h. absurd (omega (arith, ap number h))) (λ a b h. (refl, a, b)) h
 
-pub refused-stops : (stopped last : Bool) (offset : ℕ) → standing true stopped last offset ≡ Refused → stopped ≡ true
-refused-stops stopped last offset =
-    each-reason (λ (s : Standing). s ≡ Refused → stopped ≡ true) stopped last offset (λ a h. a)
-    (λ a b h. absurd (omega (arith, ap number h))) (λ a b c h. absurd (omega (arith, ap number h)))
-    (λ a b c h. absurd (omega (arith, ap number h)))
+module _ (last : Bool) (offset : ℕ) where
+  pub end-last : ends_by None last offset ≡ Some EndOfInput → last ≡ true
+  end-last =
+      each-reason (λ (e : Option End). e ≡ Some EndOfInput → last ≡ true) last offset (λ a h. a)
+      (λ a b h. absurd (omega (arith, ap number h))) (λ a b h. absurd (omega (arith, ap number h)))
 
-pub stops-refused : (stopped last : Bool) (offset : ℕ) → stopped ≡ true → standing true stopped last offset ≡ Refused
-stops-refused stopped last offset h = ap (λ (t : Bool). standing true t last offset) h
+  pub last-ends : last ≡ true → ends_by None last offset ≡ Some EndOfInput
+  last-ends h = ap (λ (t : Bool). ends_by None t offset) h
 
-pub end-last : (stopped last : Bool) (offset : ℕ) → standing true stopped last offset ≡ EndOfInput → (last ≡ true) × (stopped ≡ false)
-end-last stopped last offset =
-    each-reason (λ (s : Standing). s ≡ EndOfInput → (last ≡ true) × (stopped ≡ false)) stopped last offset
-    (λ a h. absurd (omega (arith, ap number h))) (λ a b h. (b, a)) (λ a b c h. absurd (omega (arith, ap number h)))
-    (λ a b c h. absurd (omega (arith, ap number h)))
+  pub no-read-failed : ends_by None last offset ≡ Some ReadFailed → ⊥
+  no-read-failed =
+      each-reason (λ (e : Option End). e ≡ Some ReadFailed → ⊥) last offset (λ a h. omega (arith, ap number h))
+      (λ a b h. omega (arith, ap number h)) (λ a b h. omega (arith, ap number h))
 
-pub last-ends : (stopped last : Bool) (offset : ℕ) → last ≡ true → stopped ≡ false → standing true stopped last offset ≡ EndOfInput
-last-ends stopped last offset h n =
-    ap (λ (t : Bool). standing true t last offset) n ∙ ap (λ (t : Bool). standing true false t offset) h
+  pub unrefused : ends_by None last offset ≡ Some Refused → ⊥
+  unrefused =
+      each-reason (λ (e : Option End). e ≡ Some Refused → ⊥) last offset (λ a h. omega (arith, ap number h))
+      (λ a b h. omega (arith, ap number h)) (λ a b h. omega (arith, ap number h))
 
 -- the limit is beyond what any run uses
-pub limit_when : (stopped last : Bool) (offset : ℕ) → standing true stopped last offset ≡ ByteLimit → 2 ^ 63 ≤ offset
-limit_when stopped last offset =
-    each-reason (λ (s : Standing). s ≡ ByteLimit → 2 ^ 63 ≤ offset) stopped last offset
-    (λ a h. absurd (omega (arith, ap number h))) (λ a b h. absurd (omega (arith, ap number h))) (λ a b c h. omega (arith, c))
-    (λ a b c h. absurd (omega (arith, ap number h)))
+pub limit_when : (end : Option End) (last : Bool) (offset : ℕ) → (end ≡ Some ByteLimit → ⊥) → ends_by end last offset ≡ Some ByteLimit → 2 ^ 63 ≤ offset
+limit_when (Some e) last offset n h = absurd (n h)
+limit_when None last offset n h =
+    each-reason (λ (e : Option End). e ≡ Some ByteLimit → 2 ^ 63 ≤ offset) last offset (λ a h. absurd (omega (arith, ap number h)))
+    (λ a b h. omega (arith, b)) (λ a b h. absurd (omega (arith, ap number h))) h
 
-pub no-read-failed : (stopped last : Bool) (offset : ℕ) → standing true stopped last offset ≡ ReadFailed → ⊥
-no-read-failed stopped last offset =
-    each-reason (λ (s : Standing). s ≡ ReadFailed → ⊥) stopped last offset
-    (λ a h. omega (arith, ap number h)) (λ a b h. omega (arith, ap number h)) (λ a b c h. omega (arith, ap number h))
-    (λ a b c h. omega (arith, ap number h))
-
--- the standing tells a failed write from every other end
-pub not_write : (now how : Standing) → now ≡ WriteFailed → (number how ≡ 4 → ⊥) → now ≡ how → ⊥
+-- a failed write is told from every other end
+pub not_write : (now how : Option End) → now ≡ Some WriteFailed → (number how ≡ 4 → ⊥) → now ≡ how → ⊥
 not_write now how w n h = n (ap number (sym h ∙ w))
-
--- the arm of every case but the first, as the code tells it
-pub not_going : (s : Standing) → OneOf (1 ∷ 2 ∷ 3 ∷ 4 ∷ 5 ∷ []) (tag_of the_type s) → s ≡ GoesOn → ⊥
-not_going s h e =
-    miss (1 ∷ 2 ∷ 3 ∷ 4 ∷ 5 ∷ []) 0 tt (subst (λ (x : Standing). OneOf (1 ∷ 2 ∷ 3 ∷ 4 ∷ 5 ∷ []) (tag_of the_type x)) e h)

@@ -1,64 +1,32 @@
--- The rounds of a run, one after the other, for every program that keeps a few laws: what each round leaves is what all bytes that came
--- make of the program, and a round that goes on has read a byte. Assumes nothing.
-use Prim.Native.Nat.{ℕ, ◌+◌, ◌-◌, ◌≤◌, ◌<◌}
-use mathlib.Core.Path.{◌≡◌, refl, ap, sym, ◌∙◌, subst}
-use mathlib.Core.Bool.{false}
-use mathlib.Core.List.{List, [], ◌∷◌, ◌++◌}
-use mathlib.Core.Logic.{◌⊎◌, inl, inr}
-use native.Mathlib.Omega.{arith}
-use lib.IntN.{ℤ, pos, negsuc}
-use lib.ListN.{length, take, drop, length-append, length-drop}
-use lib.Seq.{drop-drop, drop-append-le, length-take-le}
+-- The rounds of a run, one after the other, for every machine: what each round leaves is what serving all bytes that came in one piece
+-- gives, and a round that goes on has read a byte. Assumes nothing.
+use Rattle.std.proofs.Common.{◌≡◌, ℕ, ◌+◌, ◌-◌, ◌<◌, ◌≤◌, Bool, true, false, eqb, List, [], ◌∷◌, ◌++◌, ◌⊎◌, inl, inr, length, take, drop, refl, sym, subst, ap, ◌∙◌, arith, Option, Some, None, length-append, length-drop, length-take}
+use Rattle.std.proofs.KnownBytes.{Appends-trans, Appends-nil, Consumes-trans, Consumes-kept, Consumes-nil}
+use Rattle.std.specs.Io.KnownBytes.{Appends, Consumes, Keeps}
+use mathlib.Core.List.{append_assoc, append-nil}
+use lib.Seq.{slice, length-slice, drop-drop, drop-append-le, length-take-le, take-add, take_at, drop_at, take-append-le}
 use borrow.Author.Tests.{eqb-false}
-use Rattle.io.specs.Counts.{clamp_len}
-use Rattle.reads.specs.declared.Standing.TheVariants.{GoesOn, WriteFailed}
-use Rattle.reads.specs.Reads.{Moved, Bytes, Read, came, to_serve, last_bytes, is_zero, at_end, is_below, has_failed}
-use Rattle.reads.specs.Program.{Program, after_reads, EachGoesOn, Ran}
-use Rattle.reads.proofs.Reasons.{number}
-use Rattle.reads.proofs.Brought.{bytes-behind}
-use Rattle.reads.proofs.Rounds.{new, serves, filled, filled-size, filled-front, filled-answer}
+use Rattle.reads.specs.declared.machine.End.{End}
+use Rattle.reads.specs.declared.machine.End.TheVariants.{ReadFailed, WriteFailed}
+use Rattle.reads.specs.declared.machine.Stand.{Stand}
+use Rattle.reads.specs.Reads.{most_bytes, moved, Bytes, HasWrittenSome, Read, came, at_end, is_zero, is_failure, has_failed}
+use Rattle.reads.specs.Machine.{Run, further, unserved, Serving, ends_by, with_end, ended, Round, round_at, served_part, failed, after_read, program_of, Wrote, replies, HasServed}
+use Rattle.reads.specs.Program.{Program, after_reads, EachGoesOn}
+use Rattle.reads.proofs.Goes.{round_same, some_of_all, some_behind}
+use Rattle.reads.proofs.Moving.{all_moved}
+use Rattle.reads.proofs.Reasons.{goes_when}
 
--- between two rounds: the reads so far, and the bytes that wait, `held` of them from `offset` on, stand in front of the buffer
-pub record Under {R : Type 0} (p : Program R) (offset held : R → ℕ) (r : R) (input : List ℕ) : Type 0 where
-  pub reads : List Read
-  pub each_goes_on : EachGoesOn p reads
-  pub round_is : r ≡ after_reads p reads
-  pub goes : p.standing_of r ≡ GoesOn
-  pub waits : take (held r) input ≡ drop (offset r) (came reads)
+abbrev pub last_bytes : ℕ → List ℕ → List ℕ
+last_bytes n s = drop (length s - n) s
 
--- what a program brings: `SoFar s r` is what it knows of its round r where the bytes s have come and more may come, and `round` what it
--- makes of r, the bytes to serve and the read's answer
-pub record Laws {R : Type 0} (p : Program R) (SoFar : List ℕ → R → Type 0) (offset held : R → ℕ)
-    (round : R → List ℕ → ℤ → R) : Type 0 where
-  pub begins : p.standing_of p.start ≡ GoesOn
-  pub start_so_far : SoFar [] p.start
-  pub after_so_far : (got : ℤ) (s : List ℕ) (before : R) → p.standing_of (p.after got s before) ≡ GoesOn
-      → SoFar s (p.after got s before)
-  pub size_is : (s : List ℕ) (r : R) → SoFar s r → offset r + held r ≡ length s
-  -- a round on the bytes that wait and the new ones is what all that came make of the program
-  pub next-is : (s : List ℕ) (r : R) → SoFar s r → (more : List ℕ) (got : ℤ)
-      → round r (drop (offset r) s ++ more) got ≡ p.after got (s ++ more) r
-  pub later : (r : R) (s : List ℕ) (got : ℤ) → offset r ≤ offset (round r s got)
-  -- where it goes on, the read brought a byte
-  pub has-read : (got : ℤ) (s : List ℕ) (before : R) → p.standing_of (p.after got s before) ≡ GoesOn
-      → (is_zero got ≡ false) × (is_below got ≡ false)
-
--- a read that answered above 0, where there is room, brings a byte
-more_bytes : (s input : List ℕ) (held : ℕ) (got : ℤ) → held < length input → (is_zero got ≡ false) × (is_below got ≡ false)
-    → length s < length (s ++ new input held got)
-more_bytes s input held (negsuc k) low h = let z : ◌≡◌ {A = ℕ} 0 1 = cc in absurd (omega arith)
-more_bytes s input held (pos k) low h =
-    let part : List ℕ = drop held input in
-    omega (
-      arith,
-      eqb-false k 0 h.0,
-      length-append s (new input held (pos k)),
-      length-drop held input,
-      length-take-le (clamp_len (pos k) (length part)) part (omega arith),
-    )
+-- the end of the input stands behind all bytes, and behind those that are left to serve
+pub end-behind : (ending : Option ℕ) (last : Bool) (a b : List ℕ) → ended ending last (a ++ b) ≡ a ++ ended ending last b
+end-behind ending false a b = refl
+end-behind None true a b = refl
+end-behind (Some x) true a b = append_assoc a b (x ∷ [])
 
 -- the bytes s came, those from `offset` on wait, and `more` came: the last h of these are those of all that came from `next` on
-rest-waits : (s more : List ℕ) (offset next h : ℕ) → offset ≤ length s → offset ≤ next → next + h ≡ length (s ++ more)
+pub rest-waits : (s more : List ℕ) (offset next h : ℕ) → offset ≤ length s → offset ≤ next → next + h ≡ length (s ++ more)
     → last_bytes h (drop offset s ++ more) ≡ drop next (s ++ more)
 rest-waits s more offset next h within later size =
     let all : List ℕ = s ++ more in
@@ -67,137 +35,316 @@ rest-waits s more offset next h within later size =
     ∙ drop-drop (length (drop offset all) - h) offset all
     ∙ ap (λ (n : ℕ). drop n all) from
 
--- each read of a run was made where the ones before it let the program go on
-pub earlier : {R : Type 0} (p : Program R) (later : List Read) (x : Read) (before : List Read) → EachGoesOn p (later ++ (x ∷ before))
-    → p.standing_of (after_reads p before) ≡ GoesOn
-earlier p [] x before e = e.0
-earlier p (y ∷ later) x before e = earlier p later x before e.1
+module _ {M : Type 0} (run : Serving M) (ending : Option ℕ) (run_nil : (m : M) (offset : ℕ) → run m offset [] false ≡ unserved m)
+    (run_more : (m : M) (offset : ℕ) (s more : List ℕ) (last : Bool) → (run m offset s false).end ≡ None
+    → run m offset (s ++ more) last
+    ≡ further (run m offset s false) (run (run m offset s false).machine (offset + (run m offset s false).used) (drop (run m offset s false).used s ++ more) last))
+    (few_wait : (m : M) (offset : ℕ) (s : List ℕ) → (run m offset s false).end ≡ None
+    → ((run m offset s false).used ≤ length s) × (length s ≤ (run m offset s false).used + 65535))
+    (m : M) where
+  abbrev pub p : Program (Round M)
+  p = program_of run ending m
 
-module _ {R : Type 0} {p : Program R} {SoFar : List ℕ → R → Type 0} {offset held : R → ℕ} {round : R → List ℕ → ℤ → R}
-    (laws : Laws p SoFar offset held round) where
-  pub so_far : (reads : List Read) → p.standing_of (after_reads p reads) ≡ GoesOn → SoFar (came reads) (after_reads p reads)
-  so_far [] h = laws.start_so_far
-  so_far (x ∷ before) h = laws.after_so_far x.got (came (x ∷ before)) (after_reads p before) h
+  -- the round r is what serving the bytes s in one piece gives, where more may come
+  pub record SoFar (s : List ℕ) (r : Round M) : Type 0 where
+    pub machine_is : (run m 0 s false).machine ≡ r.machine
+    pub used-is : (run m 0 s false).used ≡ r.offset
+    pub goes : (run m 0 s false).end ≡ None
+    pub size_is : r.offset + r.held ≡ length s
+    pub few : r.offset < most_bytes
+    pub held-few : r.held ≤ 65535
+
+  part-goes : (last : Bool) (s : List ℕ) → (served_part run m 0 (ended ending last s) last).standing ≡ None
+      → SoFar s (served_part run m 0 (ended ending last s) last)
+  part-goes true s h =
+      let w = goes_when (run m 0 (with_end ending s) true).end true (0 + (run m 0 (with_end ending s) true).used) h in
+      let z : true ≡ false = w.1 in cc
+  part-goes false s h =
+      let w = goes_when (run m 0 s false).end false (0 + (run m 0 s false).used) h in
+      let f = few_wait m 0 s w.0 in
+      record {
+        machine_is = refl;
+        used-is = omega arith;
+        goes = w.0;
+        size_is = omega (arith, f);
+        few = w.2;
+        held-few = omega (arith, f);
+      }
+
+  pub start_so_far : SoFar [] (record { machine = m; offset = 0; held = 0; standing = None })
+  start_so_far =
+      let e = run_nil m 0 in
+      record {
+        machine_is = ap (λ (r : Run M). r.machine) e;
+        used-is = ap (λ (r : Run M). r.used) e;
+        goes = ap (λ (r : Run M). r.end) e;
+        size_is = refl;
+        few = omega arith;
+        held-few = omega arith;
+      }
+
+  pub so_far : (reads : List Read) → (after_reads p reads).standing ≡ None → SoFar (came reads) (after_reads p reads)
+  so_far [] h = start_so_far
+  so_far (x ∷ before) h = each x.got h
+    where
+      each : (got : Option ℕ) → (after_read run ending m got (came (x ∷ before)) (after_reads p before)).standing ≡ None
+          → SoFar (came (x ∷ before)) (after_read run ending m got (came (x ∷ before)) (after_reads p before))
+      each (Some k) h = part-goes (eqb k 0) (came (x ∷ before)) h
+      each None h = let z : ◌≡◌ {A = Option End} None (Some ReadFailed) = sym h in cc
 
   -- where it goes on, the input has not ended and no read failed
-  pub goes-more : (reads : List Read) → p.standing_of (after_reads p reads) ≡ GoesOn → (at_end reads ≡ false) × (has_failed reads ≡ false)
+  pub goes-more : (reads : List Read) → (after_reads p reads).standing ≡ None → (at_end reads ≡ false) × (has_failed reads ≡ false)
   goes-more [] h = (refl, refl)
-  goes-more (x ∷ before) h = laws.has-read x.got (came (x ∷ before)) (after_reads p before) h
+  goes-more (x ∷ before) h = each x.got h
+    where
+      each : (got : Option ℕ) → (after_read run ending m got (came (x ∷ before)) (after_reads p before)).standing ≡ None
+          → (is_zero got ≡ false) × (is_failure got ≡ false)
+      each (Some k) h = ((goes_when _ (eqb k 0) _ h).1, refl)
+      each None h = let z : ◌≡◌ {A = Option End} None (Some ReadFailed) = sym h in cc
+
+  -- each read of a run was made where the ones before it let the program go on
+  pub earlier : (later : List Read) (x : Read) (before : List Read) → EachGoesOn p (later ++ (x ∷ before))
+      → (after_reads p before).standing ≡ None
+  earlier [] x before e = e.0
+  earlier (y ∷ later) x before e = earlier later x before e.1
 
   -- no read comes after the end of input, or after a read that failed
   pub no_more : (reads : List Read) → EachGoesOn p reads → (later : List Read) (x : Read) (before : List Read)
       → reads ≡ later ++ (x ∷ before)
-      → (p.standing_of (after_reads p before) ≡ GoesOn) × (at_end before ≡ false) × (has_failed before ≡ false)
+      → ((after_reads p before).standing ≡ None) × (at_end before ≡ false) × (has_failed before ≡ false)
   no_more reads e later x before h =
-      let on = earlier p later x before (subst (EachGoesOn p) h e) in
-      let e = goes-more before on in
-      (on, e.0, e.1)
+      let on = earlier later x before (subst (EachGoesOn p) h e) in
+      let g = goes-more before on in
+      (on, g.0, g.1)
 
-  pub under-start : (r : R) (input : List ℕ) → r ≡ p.start → Under p offset held r input
-  under-start r input e =
-      let size = laws.size_is [] p.start laws.start_so_far in
-      let none-held : held r ≡ 0 = ap held e ∙ omega (arith, size) in
-      let at_first : offset r ≡ 0 = ap offset e ∙ omega (arith, size) in
+  -- the bytes s have come, and behind those that wait `more`
+  module _ (s : List ℕ) (r : Round M) (f : SoFar s r) (more : List ℕ) where
+    pub next-run : (last : Bool)
+        → run m 0 (ended ending last (s ++ more)) last
+        ≡ further (run m 0 s false) (run r.machine r.offset (ended ending last (drop r.offset s ++ more)) last)
+    next-run last =
+        let first : Run M = run m 0 s false in
+        let none : 0 + first.used ≡ r.offset = omega (arith, f.used-is) in
+        ap (λ (l : List ℕ). run m 0 l last) (end-behind ending last s more)
+        ∙ run_more m 0 s (ended ending last more) last f.goes
+        ∙ ap (λ (n : ℕ). further first (run first.machine n (drop first.used s ++ ended ending last more) last)) none
+        ∙ ap (λ (n : ℕ). further first (run first.machine r.offset (drop n s ++ ended ending last more) last)) f.used-is
+        ∙ ap (λ (x : M). further first (run x r.offset (drop r.offset s ++ ended ending last more) last)) f.machine_is
+        ∙ ap (λ (l : List ℕ). further first (run r.machine r.offset l last)) (sym (end-behind ending last (drop r.offset s) more))
+
+    pub next_round : (last : Bool)
+        → served_part run r.machine r.offset (ended ending last (drop r.offset s ++ more)) last
+        ≡ served_part run m 0 (ended ending last (s ++ more)) last
+    next_round last =
+        let next : Run M = run r.machine r.offset (ended ending last (drop r.offset s ++ more)) last in
+        let all : Run M = run m 0 (ended ending last (s ++ more)) last in
+        let e = next-run last in
+        let used-is : r.offset + next.used ≡ 0 + all.used = omega (arith, f.used-is, ap (λ (x : Run M). x.used) e) in
+        let held-is : length (ended ending last (drop r.offset s ++ more)) - next.used ≡ length (ended ending last (s ++ more)) - all.used =
+        omega (
+          arith,
+          used-is,
+          f.size_is,
+          ap length (end-behind ending last (drop r.offset s) more),
+          ap length (end-behind ending last s more),
+          length-append (drop r.offset s) (ended ending last more),
+          length-append s (ended ending last more),
+          length-drop r.offset s,
+        ) in
+        round_same (ap (λ (x : Run M). x.machine) (sym e)) used-is held-is
+        (ap (λ (d : Option End). ends_by d last (r.offset + next.used)) (ap (λ (x : Run M). x.end) (sym e))
+        ∙ ap (ends_by all.end last) used-is)
+
+  -- between two rounds: the reads so far; the bytes that wait stand in front of the buffer; what came was read, and the replies are written
+  pub record Under (from0 from to0 to : Option (List ℕ)) (r : Round M) (input : List ℕ) : Type 0 where
+    pub reads : List Read
+    pub each_goes_on : EachGoesOn p reads
+    pub round_is : r ≡ after_reads p reads
+    pub goes : r.standing ≡ None
+    pub waits : take r.held input ≡ drop r.offset (came reads)
+    pub read : Consumes from0 from (came reads)
+    pub wrote : Appends to0 to (run m 0 (came reads) false).text
+
+  pub under-start : (from to : Option (List ℕ)) (input : List ℕ)
+      → Under from from to to (record { machine = m; offset = 0; held = 0; standing = None }) input
+  under-start from to input =
       record {
         reads = [];
         each_goes_on = tt;
-        round_is = e;
-        goes = ap p.standing_of e ∙ laws.begins;
-        waits = ap (λ (n : ℕ). take n input) none-held ∙ sym (ap (λ (n : ℕ). drop n []) at_first);
+        round_is = refl;
+        goes = refl;
+        waits = refl;
+        read = Consumes-nil from;
+        wrote = subst (Appends to to) (ap (λ (r : Run M). r.text) (sym (run_nil m 0))) (Appends-nil to);
       }
 
-  pub under_so_far : (r : R) (input : List ℕ) (u : Under p offset held r input) → SoFar (came u.reads) r
-  under_so_far r input u =
-      subst (SoFar (came u.reads)) (sym u.round_is) (so_far u.reads (ap p.standing_of (sym u.round_is) ∙ u.goes))
+  module _ (from0 from to0 to : Option (List ℕ)) (r : Round M) (input : List ℕ) (u : Under from0 from to0 to r input) where
+    pub under_so_far : SoFar (came u.reads) r
+    under_so_far = subst (SoFar (came u.reads)) (sym u.round_is) (so_far u.reads (ap (λ (x : Round M). x.standing) (sym u.round_is) ∙ u.goes))
 
-  -- a read left `input`, and the round after it `after`
-  module _ (r next : R) (before input after : List ℕ) (got : ℤ) (u : Under p offset held r before) (low : held r < length input)
-      (are_bytes : Bytes (drop (held r) input)) (few : Moved (length (drop (held r) input)) got)
-      (front : take (held r) input ≡ take (held r) before)
-      (told : (p.standing_of next ≡ WriteFailed) ⊎ (next ≡ round r (to_serve input (held r) got) got))
-      (rest : p.standing_of next ≡ GoesOn → take (held next) after ≡ last_bytes (held next) (to_serve input (held r) got)) where
-    abbrev s : List ℕ
-    s = came u.reads
+    goes_here : (after_reads p u.reads).standing ≡ None
+    goes_here = ap (λ (x : Round M). x.standing) (sym u.round_is) ∙ u.goes
 
-    abbrev more : List ℕ
-    more = new input (held r) got
-
-    abbrev all : List Read
-    all =
+    -- a read that failed
+    pub run_failed : (part : List ℕ) → Bytes part → 1 ≤ length part → (from1 : Option (List ℕ)) → Keeps from from1
+        → HasServed run ending m r.machine (record { offset = r.offset; held = r.held; end = Some ReadFailed }) from0 from1 to0 to
+    run_failed part bytes room from1 kept =
+        let x : Read = record { part = part; are_bytes = bytes; got = None; some-room = room; in_room = tt } in
+        let same : came u.reads ++ [] ≡ came u.reads = append-nil (came u.reads) in
+        let text : (run m 0 (came u.reads ++ []) false).text ≡ (run m 0 (came u.reads) false).text = ap (λ (l : List ℕ). (run m 0 l false).text) same in
+        let all : Appends to0 to (run m 0 (came u.reads ++ []) false).text = subst (Appends to0 to) (sym text) u.wrote in
         record {
-          part = drop (held r) input;
-          are_bytes = are_bytes;
-          got = got;
-          some-room = omega (arith, length-drop (held r) input);
-          in_room = few;
+          ran = record {
+            reads = x ∷ u.reads;
+            each_goes_on = (goes_here, u.each_goes_on);
+            ends = λ h. let z : ◌≡◌ {A = Option End} None (Some ReadFailed) = sym h in cc;
+            served = inr (ap failed u.round_is);
+          };
+          read = subst (Consumes from0 from1) (sym same) (Consumes-kept from0 from from1 (came u.reads) u.read kept);
+          wrote = record { whole = λ n. all; front = some_of_all to0 to _ all };
         }
-        ∷ u.reads
 
-    f : SoFar s r
-    f = under_so_far r before u
+    -- k bytes came, the first of `part`, behind those that wait, and the part served is those and the end of the input, where it ended
+    module _ (part : List ℕ) (bytes : Bytes part) (room : 1 ≤ length part) (k : ℕ) (few : k ≤ length part) (from1 : Option (List ℕ))
+        (took : Consumes from from1 (take k part)) (served : List ℕ)
+        (served-is : served ≡ ended ending (eqb k 0) (drop r.offset (came u.reads) ++ take k part)) (new : M) (x : Stand)
+        (told : (x.end ≡ Some WriteFailed) ⊎ (round_at new x ≡ served_part run r.machine r.offset served (eqb k 0)))
+        (to1 : Option (List ℕ)) (wrote : Wrote to to1 x.end (run r.machine r.offset served (eqb k 0)).text) where
+      abbrev s : List ℕ
+      s = came u.reads
 
-    serves-is : to_serve input (held r) got ≡ drop (offset r) s ++ more
-    serves-is = serves input (held r) got ∙ ap (λ (l : List ℕ). l ++ more) (front ∙ u.waits)
+      abbrev more : List ℕ
+      more = take k part
 
-    each : EachGoesOn p all
-    each = (ap p.standing_of (sym u.round_is) ∙ u.goes, u.each_goes_on)
+      abbrev all : List Read
+      all = record { part = part; are_bytes = bytes; got = Some k; some-room = room; in_room = few } ∷ u.reads
 
-    next_round : round r (to_serve input (held r) got) got ≡ p.after got (s ++ more) r
-    next_round = ap (λ (l : List ℕ). round r l got) serves-is ∙ laws.next-is s r f more got
+      f : SoFar s r
+      f = under_so_far
 
-    all-is : round r (to_serve input (held r) got) got ≡ after_reads p all
-    all-is = next_round ∙ ap (p.after got (came all)) u.round_is
+      round_is : served_part run r.machine r.offset served (eqb k 0) ≡ after_reads p all
+      round_is = ap (λ (l : List ℕ). served_part run r.machine r.offset l (eqb k 0)) served-is ∙ next_round s r f more (eqb k 0)
 
-    ended : (p.standing_of next ≡ WriteFailed) ⊎ (next ≡ round r (to_serve input (held r) got) got)
-        → (p.standing_of next ≡ WriteFailed) ⊎ (next ≡ after_reads p all)
-    ended (inl w) = inl w
-    ended (inr e) = inr (e ∙ all-is)
+      text-is : (run m 0 (ended ending (eqb k 0) (s ++ more)) (eqb k 0)).text ≡ (run m 0 s false).text ++ (run r.machine r.offset served (eqb k 0)).text
+      text-is =
+          ap (λ (y : Run M). y.text) (next-run s r f more (eqb k 0))
+          ∙ ap (λ (l : List ℕ). (run m 0 s false).text ++ (run r.machine r.offset l (eqb k 0)).text) (sym served-is)
 
-    abbrev Further : Type 0
-    Further = (offset r + held r < offset next + held next) × Under p offset held next after
+      told-is : (x.end ≡ Some WriteFailed) ⊎ (round_at new x ≡ after_reads p all)
+      told-is = go told
+        where
+          go : (x.end ≡ Some WriteFailed) ⊎ (round_at new x ≡ served_part run r.machine r.offset served (eqb k 0))
+              → (x.end ≡ Some WriteFailed) ⊎ (round_at new x ≡ after_reads p all)
+          go (inl w) = inl w
+          go (inr e) = inr (e ∙ round_is)
 
-    went_on : p.standing_of next ≡ GoesOn
-        → (p.standing_of next ≡ WriteFailed) ⊎ (next ≡ round r (to_serve input (held r) got) got) → Further
-    went_on goes (inl w) = absurd (omega (arith, ap number (sym w ∙ goes)))
-    went_on goes (inr e) =
-        let is : next ≡ after_reads p all = e ∙ all-is in
-        let n : SoFar (came all) next =
-        subst (SoFar (came all)) (sym is) (so_far all (ap p.standing_of (sym is) ∙ goes)) in
-        let size = laws.size_is s r f in
-        let size-next = laws.size_is (came all) next n in
-        let longer =
-        more_bytes s input (held r) got low
-        (laws.has-read got (s ++ more) r (ap p.standing_of (sym (e ∙ next_round)) ∙ goes)) in
-        let later : offset r ≤ offset next = omega (arith, ap offset e, laws.later r (to_serve input (held r) got) got) in (
-          omega (arith, longer, size, size-next),
+      wrote-all : Wrote to0 to1 x.end (replies run ending m all)
+      wrote-all =
           record {
-            reads = all;
-            each_goes_on = each;
-            round_is = is;
-            goes = goes;
-            waits =
-                rest goes
-                ∙ ap (last_bytes (held next)) serves-is
-                ∙ rest-waits s more (offset r) (offset next) (held next) (omega (arith, size)) later size-next;
-          },
+            whole = λ n. subst (Appends to0 to1) (sym text-is) (Appends-trans to0 to to1 _ _ u.wrote (wrote.whole n));
+            front = subst (HasWrittenSome to0 to1) (sym text-is) (some_behind to0 to to1 _ _ u.wrote wrote.front);
+          }
+
+      -- the run ends with the round
+      pub run_ended : (x.end ≡ None → ⊥) → HasServed run ending m new x from0 from1 to0 to1
+      run_ended n =
+          record {
+            ran = record { reads = all; each_goes_on = (goes_here, u.each_goes_on); ends = n; served = told-is };
+            read = Consumes-trans from0 from from1 s more u.read took;
+            wrote = wrote-all;
+          }
+
+      -- or goes on from it
+      module _ (goes : x.end ≡ None) where
+        no_failure : x.end ≡ Some WriteFailed → ⊥
+        no_failure w = let z : ◌≡◌ {A = Option End} None (Some WriteFailed) = sym goes ∙ w in cc
+
+        is : round_at new x ≡ after_reads p all
+        is = go told-is
+          where
+            go : (x.end ≡ Some WriteFailed) ⊎ (round_at new x ≡ after_reads p all) → round_at new x ≡ after_reads p all
+            go (inl w) = absurd (no_failure w)
+            go (inr e) = e
+
+        went_on : (after_reads p all).standing ≡ None
+        went_on = ap (λ (y : Round M). y.standing) (sym is) ∙ goes
+
+        next_so_far : SoFar (came all) (round_at new x)
+        next_so_far = subst (SoFar (came all)) (sym is) (so_far all went_on)
+
+        pub not_zero : eqb k 0 ≡ false
+        not_zero = (goes-more all went_on).0
+
+        pub further-on : (r.offset + r.held < x.offset + x.held) × (x.offset < most_bytes) × (x.held ≤ 65535)
+        further-on = (
+          omega (arith, f.size_is, next_so_far.size_is, length-append s more, length-take-le k part few, eqb-false k 0 not_zero),
+          next_so_far.few,
+          next_so_far.held-few,
         )
 
-    -- the run ends with the round, or goes on from it
-    pub run_step : ((p.standing_of next ≡ GoesOn → ⊥) → Ran p next) × (p.standing_of next ≡ GoesOn → Further)
-    run_step = (λ ends. record { reads = all; each_goes_on = each; ends = ends; served = ended told }, λ goes. went_on goes told)
+        later : r.offset ≤ x.offset
+        later = go told
+          where
+            go : (x.end ≡ Some WriteFailed) ⊎ (round_at new x ≡ served_part run r.machine r.offset served (eqb k 0)) → r.offset ≤ x.offset
+            go (inl w) = absurd (no_failure w)
+            go (inr e) = omega (arith, ap (λ (y : Round M). y.offset) e)
 
-  -- the same where a read filled a buffer of n bytes behind the bytes held, and left `part` there
-  pub read_step : (n : ℕ) (r next : R) (before part after : List ℕ) (got answer : ℤ) (u : Under p offset held r before) (low : held r < n)
-      (size : n ≡ length before) (kept : length part ≡ length (take (n - held r) (drop (held r) before))) → answer ≡ got
-      → Moved (length (take (n - held r) (drop (held r) before))) got → Bytes (filled n (held r) before part)
-      → (p.standing_of next ≡ WriteFailed) ⊎ (next ≡ round r (to_serve (filled n (held r) before part) (held r) answer) answer)
-      → (p.standing_of next ≡ GoesOn
-      → take (held next) after ≡ last_bytes (held next) (to_serve (filled n (held r) before part) (held r) answer))
-      → ((p.standing_of next ≡ GoesOn → ⊥) → Ran p next)
-      × (p.standing_of next ≡ GoesOn → (offset r + held r < offset next + held next) × Under p offset held next after)
-  read_step n r next before part after got answer u low size kept same moved bytes told rest =
-      let within : held r ≤ n = omega arith in
-      let buffer : List ℕ = filled n (held r) before part in
-      run_step r next before buffer after answer u (omega (arith, filled-size n (held r) before part within size kept))
-      (bytes-behind (held r) buffer bytes) (filled-answer n (held r) before part within size kept got answer same moved)
-      (filled-front n (held r) before part within size kept) told rest
+        pub next_under : (after : List ℕ) → take x.held after ≡ last_bytes x.held served → Under from0 from1 to0 to1 (round_at new x) after
+        next_under after rest =
+            let served_here : served ≡ drop r.offset s ++ more = served-is ∙ ap (λ (t : Bool). ended ending t (drop r.offset s ++ more)) not_zero in
+            record {
+              reads = all;
+              each_goes_on = (goes_here, u.each_goes_on);
+              round_is = is;
+              goes = goes;
+              waits =
+                  rest
+                  ∙ ap (last_bytes x.held) served_here
+                  ∙ rest-waits s more r.offset x.offset x.held (omega (arith, f.size_is)) later next_so_far.size_is;
+              read = Consumes-trans from0 from from1 s more u.read took;
+              wrote =
+                  subst (Appends to0 to1) (ap (λ (t : Bool). (run m 0 (ended ending t (came all)) t).text) not_zero)
+                  (wrote-all.whole no_failure);
+            }
+
+-- the buffer `input`, of n bytes, after a read behind its first `held` bytes that left `part`
+abbrev pub filled : ℕ → ℕ → List ℕ → List ℕ → List ℕ
+filled n held input part = take held input ++ (part ++ drop (n - held) (drop held input))
+
+module _ (n held : ℕ) (input part : List ℕ) (within : held ≤ n) (size : n ≡ length input)
+    (kept : length part ≡ length (take (n - held) (drop held input))) where
+  pub filled-size : n ≡ length (filled n held input part)
+  filled-size =
+      omega (
+        arith,
+        length-append (take held input) (part ++ drop (n - held) (drop held input)),
+        length-append part (drop (n - held) (drop held input)),
+        length-take held input,
+        length-take (n - held) (drop held input),
+        length-drop held input,
+        length-drop (n - held) (drop held input),
+      )
+
+  pub part-size : length part ≡ n - held
+  part-size = omega (arith, kept, length-take (n - held) (drop held input), length-drop held input)
+
+  -- the bytes that wait are not touched by the read, and what it left stands behind them
+  pub filled_served : (k : ℕ) → k ≤ length part → take (held + k) (filled n held input part) ≡ take held input ++ take k part
+  filled_served k few =
+      let front : List ℕ = take held input in
+      let rest : List ℕ = part ++ drop (n - held) (drop held input) in
+      let there : length front ≡ held = length-take-le held input (omega (arith, size)) in
+      take-add held k (front ++ rest)
+      ∙ ap (λ (l : List ℕ). l ++ take k (drop held (front ++ rest))) (take_at front rest held there)
+      ∙ ap (λ (l : List ℕ). front ++ take k l) (drop_at front rest held there)
+      ∙ ap (λ (l : List ℕ). front ++ l) (take-append-le k part (drop (n - held) (drop held input)) few)
+
+-- the last h of the bytes before `end`, moved to the front
+pub kept : (input after : List ℕ) (end h : ℕ) → end ≤ length input → h ≤ length (take end input)
+    → after ≡ moved (end - h) end input → take h after ≡ last_bytes h (take end input)
+kept input after end h fits few e =
+    let size : length (take end input) ≡ end = length-take-le end input fits in
+    let same : length (slice (end - h) end input) ≡ h = omega (arith, few, size, length-slice (end - h) end input fits) in
+    ap (take h) (e ∙ all_moved (end - h) end input (omega arith) fits)
+    ∙ take_at (slice (end - h) end input) (drop (end - (end - h)) input) h same
+    ∙ ap (λ (n : ℕ). drop (n - h) (take end input)) (sym size)

@@ -1,95 +1,72 @@
 // What the loops of the programs have in common, whatever they make of the bytes: a read and what it answers, all of some
-// bytes written, how a program stands after a read, and the bytes that wait for more moved to the front of its buffer.
+// bytes written, the bytes that wait for more moved to the front of a buffer, and the loop itself (machine).
 #![tactic(auto)]
 
-ghost use Rattle.std.specs.Prelude.{◌≡◌, ℕ, true, length};
+ghost use Rattle.std.specs.Prelude.{◌≡◌, ℕ, length, OnOk, OnErr};
 ghost use Rattle.std.specs.Io.KnownBytes.{Appends};
 ghost use Rattle.io.specs.Digits.{last_digits, IsDigitCount};
-ghost use Rattle.reads.specs.Reads.{Moved, Brings, standing, moved};
+ghost use Rattle.reads.specs.Reads.{Moved, Brings, Bytes, HasWrittenSome, moved};
 
-use std::io::{Read, Write};
+mod machine;
+
+pub use machine::{End, Machine, Served, Stand, ends_by, serve, tell};
+use std::io::{self as stream, ErrorKind, Read, Write};
 
 // A proved loop has to end, and nothing says that the input does: a program ends where it has used so many bytes, which
 // no run does.
 const MOST_BYTES: u64 = 18446744073709000000;
 
-// Whether a program goes on, or why it ends.
-#[derive(Clone, Copy)]
-pub enum Standing {
-    GoesOn,
-    EndOfInput,
-    Refused,
-    ReadFailed,
-    WriteFailed,
-    ByteLimit,
-}
-
-// One read into the part: -1 where it failed, else how many bytes it brought, 0 at the end of the input. A read that a
+// One read into the part: how many bytes it brought, 0 at the end of the input, or none where it failed. A read that a
 // signal interrupts before it brings a byte counts as one that failed.
-pub fn read_part<R: Read>(from: &mut R, part: &mut [u8]) -> isize
+pub fn read_part<R: Read>(from: &mut R, part: &mut [u8]) -> Option<usize>
     ensures room { Moved (length part.old) result }
     ensures bytes { Brings (R.remaining from.old) (R.remaining from.new) result part.new }
+    ensures are_bytes { Bytes part.new }
 {
-    match from.read(part) {
-        Ok(count) => count as isize,
-        Err(_) => -1,
-    }
+    from.read(part).ok()
 }
 
-// Writes all the bytes and answers true, or answers false where a write failed or took nothing; some of them may be
-// written then. A write that a signal interrupts before it takes a byte is tried again.
-pub fn write_all<W: Write>(to: &mut W, bytes: &[u8]) -> bool
-    ensures { result ≡ true → Appends (W.contents to.old) (W.contents to.new) bytes.now }
+// Writes all the bytes; where a write fails or takes nothing, what was written is a front of them. A write that a signal
+// interrupts before it takes a byte is tried again. By hand, since the library's method says nothing of what a failed write left; the turns
+// are counted, since a proved loop has to end: no run makes so many.
+pub fn write_all<W: Write>(to: &mut W, bytes: &[u8]) -> stream::Result<()>
+    ensures ok { OnOk result (Appends (W.contents to.old) (W.contents to.new) bytes.now) }
+    ensures err { OnErr result (HasWrittenSome (W.contents to.old) (W.contents to.new) bytes.now) }
 {
-    match to.write_all(bytes) {
-        Ok(()) => true,
-        Err(_) => false,
+    let mut done = 0;
+    for _turn in 0..u64::MAX {
+        if done == bytes.len() {
+            return Ok(());
+        }
+        match to.write(&bytes[done..]) {
+            Ok(0) => return Err(stream::Error::from(ErrorKind::WriteZero)),
+            Ok(n) => done += n,
+            Err(e) => {
+                if e.kind() != ErrorKind::Interrupted {
+                    return Err(e);
+                }
+            }
+        }
     }
+    Err(stream::Error::from(ErrorKind::Other))
 }
 
-// Writes a number in decimal, with no line end, and answers as `write_all` does.
-pub fn write_number<W: Write>(to: &mut W, n: u64) -> bool
-    ensures { result ≡ true → (k : ℕ) × IsDigitCount 10 1 n k × Appends (W.contents to.old) (W.contents to.new) (last_digits 10 k n) }
+// Writes a number in decimal, with no line end, as `write_all` does.
+// By digits and not by `write!`: the promise names them (`last_digits`), and `write!` promises its bytes of plain formatters alone.
+pub fn write_number<W: Write>(to: &mut W, n: u64) -> stream::Result<()>
+    ensures ok { OnOk result ((k : ℕ) × IsDigitCount 10 1 n k × Appends (W.contents to.old) (W.contents to.new) (last_digits 10 k n)) }
+    ensures err { OnErr result ((k : ℕ) × IsDigitCount 10 1 n k × HasWrittenSome (W.contents to.old) (W.contents to.new) (last_digits 10 k n)) }
 {
     let mut digits = [0u8; 20];
     let count = io::decimal(n, &mut digits);
     write_all(to, &digits[..count])
 }
 
-// How a program stands that has served what a read brought: whether its lines were written, it was refused, the input has
-// ended, and at which offset it is.
-pub fn standing_of(written: bool, stopped: bool, last: bool, offset: u64) -> Standing
-    ensures { result ≡ standing written stopped last offset }
-{
-    if !written {
-        return Standing::WriteFailed;
-    }
-    if stopped {
-        return Standing::Refused;
-    }
-    if last {
-        return Standing::EndOfInput;
-    }
-    if offset >= MOST_BYTES {
-        return Standing::ByteLimit;
-    }
-    Standing::GoesOn
-}
-
 // Moves the bytes from `from` to `end` to the front, where there are such.
 pub fn move_rest(input: &mut [u8], from: usize, end: usize)
     ensures { input.new ≡ moved from end input.old }
 {
-    if end < from {
-        return;
-    }
-    if input.len() < end {
-        return;
-    }
-    let count = end - from;
-    let mut k = 0;
-    while k < count {
-        input[k] = input[from + k];
-        k += 1;
+    if from <= end && end <= input.len() {
+        input.copy_within(from..end, 0);
     }
 }
