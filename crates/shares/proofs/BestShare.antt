@@ -7,14 +7,26 @@ use mathlib.Core.List.{List}
 use mathlib.Core.Logic.{◌⊎◌, inl, inr}
 use native.Mathlib.Omega.{arith}
 use native.Mathlib.Nat.{le-div_iff_mul-le, mul-le-mul_right, div-le_of_le-mul}
-use lib.Dec.{leb, eqb}
+use lib.Dec.{eqb}
 use borrow.Author.Tests.{le-leb, lt-leb, eq-eqb, ne_eqb, eqb-true, eqb-false}
 use Rattle.model.specs.Search.{first}
 use Rattle.model.specs.Form.{Form, takes}
 use Rattle.model.specs.Share.{Share, passes, least_of, better, best_of}
 use Rattle.model.proofs.Tests.{below-or-from}
 use Rattle.model.proofs.Places.{Smallest, first-smallest, first-at, first-none}
-use Rattle.shares.specs.Private.{Offered, cap_of, replaced_by}
+use Rattle.std.specs.Prelude.{Option, Some, None}
+use Rattle.shares.specs.declared.answers.Share.{Share as CodeShare}
+use Rattle.shares.specs.Private.{IsOffered, place_of, paper_best, cap_of}
+use Rattle.shares.proofs.RowLaws.{place_zero, place_at}
+
+-- a share that was offered, or none: its budget is at most its period, and that in range
+pub record Offered (s : Share) : Type 0 where
+  pub budget-most : s.budget ≤ s.period
+  pub period-most : s.period ≤ 2000
+
+-- the share (P, B) where there is a budget, else s
+unfoldable pub replaced_by : Share → ℕ → ℕ → Share
+replaced_by s P B = cond (eqb B 0) s (record { period = P; budget = B })
 
 pub cap_none : (s : Share) (P : ℕ) → s.budget ≡ 0 → cap_of s P ≡ P
 unfolding cap_of
@@ -127,34 +139,27 @@ best_skips form ps es (suc n) pos skipped =
     let b : suc n + 1 - 1 ≡ suc n = omega arith in
     rw (a, b) (rw skipped)
 
--- it is a share in range, or none
-best-fits : (form : Form) (ps es : List ℕ) (n : ℕ)
-    → ((best_of form ps es n).budget ≤ (best_of form ps es n).period) × ((best_of form ps es n).period ≤ n)
-unfolding best_of least_of better
-best-fits form ps es zero = (omega arith, omega arith)
-best-fits form ps es (suc n) =
-    skip (takes form (suc n) ps) (best_of form ps es n) (best-fits form ps es n) (first (passes form (suc n) ps es) (suc n))
-    (first-smallest (passes form (suc n) ps es) (suc n)).most
-  where
-    Fits : Share → Type 0
-    Fits s = (s.budget ≤ s.period) × (s.period ≤ suc n)
+-- the best share so far as the code has it: none, or one with some budget
+pub offered_of : (best : Option CodeShare) → IsOffered best → Offered (paper_best best)
+offered_of None o = record { budget-most = omega arith; period-most = omega arith }
+offered_of (Some s) o = record { budget-most = o.1; period-most = o.2 }
 
-    go : (s : Share) → (s.budget ≤ s.period) × (s.period ≤ n) → (r : ℕ) → r ≤ suc n
-        → Fits (better s (record { period = suc n; budget = r }))
-    go s i r h = by (eqb r 0) (eqb s.budget 0) (leb (r * s.period) (s.budget * suc n))
-      where
-        by : (a b c : Bool)
-            → Fits (cond a s (cond b (record { period = suc n; budget = r }) (cond c (record { period = suc n; budget = r }) s)))
-        by true b c = (omega (arith, i), omega (arith, i))
-        by false true c = (omega arith, omega arith)
-        by false false true = (omega arith, omega arith)
-        by false false false = (omega (arith, i), omega (arith, i))
+-- a period with no budget leaves it; one with a budget up to the cap replaces it
+module _ (form : Form) (ps es : List ℕ) (best : Option CodeShare) (p : ℕ) (pos : 1 ≤ p) (o : IsOffered best) (taken : takes form p ps ≡ true)
+    (e : paper_best best ≡ best_of form ps es (p - 1)) where
+  next_of : replaced_by (paper_best best) p (first (passes form p ps es) (cap_of (paper_best best) p)) ≡ best_of form ps es (p + 1 - 1)
+  next_of = best-next form ps es (paper_best best) p pos (offered_of best o) taken e
 
-    skip : (taken : Bool) (s : Share) → (s.budget ≤ s.period) × (s.period ≤ n) → (r : ℕ) → r ≤ suc n
-        → Fits (cond taken (better s (record { period = suc n; budget = r })) s)
-    skip true s i r h = go s i r h
-    skip false s i r h = (omega (arith, i), omega (arith, i))
+  pub best_kept : None ≡ place_of (first (passes form p ps es) (cap_of (paper_best best) p)) → paper_best best ≡ best_of form ps es (p + 1 - 1)
+  best_kept none = sym (replaced_none (paper_best best) p _ (place_zero _ none)) ∙ next_of
 
-pub best-offered : (form : Form) (ps es : List ℕ) (n : ℕ) → n ≤ 2000 → Offered (best_of form ps es n)
-best-offered form ps es n h =
-    record { budget-most = (best-fits form ps es n).0; period-most = omega (arith, (best-fits form ps es n).1) }
+  pub best_replaced : (b : ℕ) → Some b ≡ place_of (first (passes form p ps es) (cap_of (paper_best best) p))
+      → (record { period = p; budget = b } ≡ best_of form ps es (p + 1 - 1)) × (1 ≤ b) × (b ≤ p)
+  best_replaced b some =
+      let n = first (passes form p ps es) (cap_of (paper_best best) p) in
+      let at = place_at b n some in
+      let most : n ≤ cap_of (paper_best best) p = (first-smallest (passes form p ps es) (cap_of (paper_best best) p)).most in (
+        ap (λ (b : ℕ). record { period = p; budget = b }) (sym at.0) ∙ sym (replaced_some (paper_best best) p n (λ z. omega (arith, at))) ∙ next_of,
+        at.1,
+        omega (arith, at.0, most, cap_most (paper_best best) p (offered_of best o)),
+      )

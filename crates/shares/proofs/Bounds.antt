@@ -1,14 +1,7 @@
 -- That the sums and products of this crate's arithmetic fit 32 bits, over plain numbers. Assumes nothing.
-use Prim.Native.Nat.{ℕ, ◌+◌, ◌*◌, ◌-◌, ◌/◌, ◌≤◌}
+use Prim.Native.Nat.{ℕ, ◌*◌, ◌-◌, ◌/◌, ◌≤◌}
 use native.Mathlib.Omega.{arith}
-use native.Mathlib.Nat.{le_trans, mul-le-mul, mul-le-mul_left, mul-le-mul_right, div-le_self, div-mul-le_self}
-
--- what the lost ticks of `reach` come to
-pub reach_most : (n p b d : ℕ) → n ≤ 2 → p ≤ 2000 → d ≤ 65536 → (p - b) * (n + (d - 1) / b) ≤ 2000 * 65537
-reach_most n p b d hn hp hd =
-    let gap : p - b ≤ 2000 = omega arith in
-    let turns : n + (d - 1) / b ≤ 65537 = omega (arith, div-le_self (d - 1) b) in
-    mul-le-mul gap turns
+use native.Mathlib.Nat.{le_trans, mul-le-mul_left, mul-le-mul_right, div-mul-le_self}
 
 -- one gap or two, and one less
 pub gaps_most : (n g : ℕ) → n ≤ 2 → (n * g ≤ 2 * g) × ((n - 1) * g ≤ g)

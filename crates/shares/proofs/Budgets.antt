@@ -1,23 +1,25 @@
 -- The least budget, in either form: passing grows with the budget, so that one failing budget settles all below it, and the search may
 -- begin above it. Assumes nothing.
-use Prim.Native.Nat.{ℕ, zero, suc, ◌+◌, ◌≤◌, ◌<◌}
-use mathlib.Core.Path.{◌≡◌, refl, sym}
+use Prim.Native.Nat.{ℕ, zero, suc, ◌-◌, ◌≤◌, ◌<◌}
+use Rattle.std.specs.Prelude.{Option, Some, None, is_some}
+use mathlib.Core.Path.{◌≡◌, refl, ap, sym, ◌∙◌}
 use mathlib.Core.Bool.{Bool, true, false, ◌&&◌}
 use mathlib.Core.List.{List}
 use mathlib.Core.Logic.{◌⊎◌, inl, inr}
 use native.Mathlib.Omega.{arith}
-use lib.Dec.{leb}
-use borrow.Author.Tests.{le-leb, lt-leb}
+use lib.Dec.{leb, eqb}
+use borrow.Author.Tests.{le-leb, lt-leb, eqb-true, eqb-false}
 use lib.ListN.{length}
 use Rattle.model.specs.Search.{first}
 use Rattle.model.specs.Form.{Form}
 use Rattle.model.specs.Share.{meets, passes}
 use Rattle.model.proofs.Tests.{below-or-from, tested, clash}
-use Rattle.model.proofs.Places.{everywhere-has, everywhere-all, first_agrees, Smallest, first-smallest}
-use Rattle.shares.specs.Private.{Tasks, NoneUpTo}
+use Rattle.model.proofs.Places.{everywhere-has, everywhere-all, first-at, first-none, first_agrees, Smallest, first-smallest}
+use Rattle.shares.specs.Private.{IsTaskList, NoneUpTo, place_of}
+use Rattle.shares.proofs.RowLaws.{place_none, place_some, place_is}
 use Rattle.shares.proofs.Walk.{meets-grows}
 
-module _ (form : Form) (P : ℕ) (ps es : List ℕ) (tasks : Tasks ps es) where
+module _ (form : Form) (P : ℕ) (ps es : List ℕ) (tasks : IsTaskList ps es) where
   pub passes-grows : (B C : ℕ) → 1 ≤ B → B ≤ C → C ≤ P → passes form P ps es B ≡ true → passes form P ps es C ≡ true
   unfolding passes
   passes-grows B C pos h fits e = everywhere-all (λ i. meets form P C ps es i) (length ps) (λ i p l. at i p l)
@@ -68,12 +70,32 @@ module _ (form : Form) (P : ℕ) (ps es : List ℕ) (tasks : Tasks ps es) where
           here true h = rw same at h
           here false h = absurd (clash h refl)
 
-  -- the search from above a failing budget is the search from 1
-  pub skip : (r cap : ℕ) → NoneUpTo form P ps es r
-      → first (λ x. leb (r + 1) x && passes form P ps es x) cap ≡ first (passes form P ps es) cap
-  skip r cap none =
-      first_agrees (λ x. leb (r + 1) x && passes form P ps es x) (passes form P ps es) cap (λ x p l. at x p (below-or-from x (r + 1)))
+  pub one_tells : (b : ℕ) (found : Option ℕ) → 1 ≤ b → found ≡ place_of (first (λ x. leb b x && passes form P ps es x) b)
+      → is_some found ≡ passes form P ps es b
+  one_tells b found pos e = ap is_some e ∙ go (eqb r 0) refl
     where
-      at : (x : ℕ) → 1 ≤ x → (x < r + 1) ⊎ (r + 1 ≤ x) → (leb (r + 1) x && passes form P ps es x) ≡ passes form P ps es x
-      at x p (inl low) = rw (lt-leb (r + 1) x low) (sym (none x p (omega arith)))
-      at x p (inr high) = rw (le-leb (r + 1) x high)
+      r : ℕ
+      r = first (λ x. leb b x && passes form P ps es x) b
+
+      go : (t : Bool) → eqb r 0 ≡ t → is_some (place_of r) ≡ passes form P ps es b
+      go true z = rw (place_none r (eqb-true r 0 z)) (sym (one-fails b pos (sym (eqb-true r 0 z))))
+      go false z = rw (place_some r (omega (arith, eqb-false r 0 z))) (sym (one_passes b r (eqb-false r 0 z) refl))
+
+  -- the search up to a cap: the cap itself is tried, then what is above a failing budget
+  pub least_none : (cap : ℕ) → cap ≤ P → (cap ≡ 0) ⊎ (passes form P ps es cap ≡ false) → None ≡ place_of (first (passes form P ps es) cap)
+  least_none cap fits (inl e) = sym (place_none _ (rw e))
+  least_none cap fits (inr e) = sym (place_none _ (first-none (passes form P ps es) cap (fails-below cap fits e)))
+
+  pub least_cap : (cap : ℕ) → 1 ≤ cap → NoneUpTo form P ps es (cap - 1) → passes form P ps es cap ≡ true
+      → Some cap ≡ place_of (first (passes form P ps es) cap)
+  least_cap cap pos none e =
+      place_is cap _ pos (sym (first-at (passes form P ps es) cap cap pos (omega arith) e (λ x p l. none x p (omega arith))))
+
+  pub skip : (from cap : ℕ) → 1 ≤ from → NoneUpTo form P ps es (from - 1)
+      → first (λ x. leb from x && passes form P ps es x) cap ≡ first (passes form P ps es) cap
+  skip from cap pos none =
+      first_agrees (λ x. leb from x && passes form P ps es x) (passes form P ps es) cap (λ x p l. at x p (below-or-from x from))
+    where
+      at : (x : ℕ) → 1 ≤ x → (x < from) ⊎ (from ≤ x) → (leb from x && passes form P ps es x) ≡ passes form P ps es x
+      at x p (inl low) = rw (lt-leb from x low) (sym (none x p (omega arith)))
+      at x p (inr high) = rw (le-leb from x high)

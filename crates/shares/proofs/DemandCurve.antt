@@ -7,7 +7,7 @@ use native.Mathlib.Omega.{arith}
 use native.Mathlib.Nat.{le_trans, le_refl, mul-le-mul, mul-le-mul_left, mul-le-mul_right, div-mul-le_self, le-div_iff_mul-le}
 use lib.ListN.{length, get_or}
 use Rattle.model.specs.Demand.{ceil, demand_of}
-use Rattle.shares.specs.Private.{Tasks, longest}
+use Rattle.shares.specs.Private.{IsTaskList, longest}
 use Rattle.shares.proofs.Numbers.{div_mono}
 
 pub demand-longer : (ps es : List ℕ) (i t u : ℕ) → t ≤ u → demand_of ps es i t ≤ demand_of ps es i u
@@ -29,7 +29,7 @@ one-some p e t pos some-e some-t =
     let whole : 1 ≤ ceil t p = (le-div_iff_mul-le pos).1 (omega arith) in
     mul-le-mul whole some-e
 
-module _ (ps es : List ℕ) (tasks : Tasks ps es) where
+module _ (ps es : List ℕ) (tasks : IsTaskList ps es) where
   pub demand-some : (i t : ℕ) → i < length ps → 1 ≤ t → 1 ≤ demand_of ps es (suc i) t
   demand-some i t h pos =
       omega (arith, one-some (get_or ps i 0) (get_or es i 0) t (tasks.period-least i h) (tasks.cost-least i h) pos)
@@ -54,6 +54,3 @@ module _ (ps es : List ℕ) (tasks : Tasks ps es) where
 
   pub longest-most : longest ps ≤ 2000
   longest-most = tasks.period-most (length ps - 1) (omega (arith, tasks.some-task))
-
-  pub longest-least : 1 ≤ longest ps
-  longest-least = tasks.period-least (length ps - 1) (omega (arith, tasks.some-task))

@@ -2,23 +2,20 @@
 -- divides all of them where it divides the first. Assumes nothing.
 use Prim.Native.Nat.{ℕ, zero, suc, ◌+◌, ◌*◌, ◌-◌, ◌%◌, ◌≤◌, ◌<◌}
 use mathlib.Core.Path.{◌≡◌, refl, ap, sym, ◌∙◌, subst}
-use mathlib.Core.Bool.{true, false}
+use mathlib.Core.Bool.{Bool, true, false}
 use mathlib.Core.List.{List}
 use mathlib.Core.Logic.{◌⊎◌, inl, inr}
 use native.Mathlib.Omega.{arith}
-use native.Mathlib.Nat.{le_refl, le_trans, mul_assoc, mul-mod_left}
+use native.Mathlib.Nat.{mul_assoc, mul-mod_left}
 use borrow.Author.Tests.{eq-eqb}
+use Rattle.std.specs.Prelude.{◌↔◌, IsTrue}
 use lib.ListN.{length, get_or}
-use Rattle.model.specs.Form.{Form, ordinary, aligned, divides, pairwise, multiples, takes}
+use Rattle.model.specs.Form.{divides, pairwise, multiples}
 use Rattle.model.specs.Meaning.{Multiple, Pairwise, Multiples}
 use Rattle.model.proofs.Tests.{tested, below-or-from}
-use Rattle.model.proofs.Places.{everywhere-all}
 use Rattle.model.proofs.Divides.{divides-tells, pairwise-tells, multiples-tells}
-use Rattle.shares.specs.Private.{Tasks, Rising}
-
-pub rising-tasks : (ps es : List ℕ) → Tasks ps es → Rising ps
-rising-tasks ps es tasks =
-    record { some-task = tasks.some-task; few = tasks.few; least = tasks.period-least; rising = tasks.rising }
+use Rattle.shares.specs.Private.{IsTaskList, EachDivides}
+use Rattle.shares.proofs.DemandCurve.{rising_to}
 
 multiple_trans : (a b c : ℕ) → Multiple a b → Multiple b c → Multiple a c
 multiple_trans a b c (m, e) (n, f) = (n * m, f ∙ ap (λ (x : ℕ). n * x) e ∙ sym (mul_assoc n m a))
@@ -33,25 +30,11 @@ larger a b some-a h (inr (suc m, e)) = (1, omega (arith, e))
 abbrev pub Chain : List ℕ → ℕ → Type 0
 Chain ps i = (k : ℕ) → suc k < i → Multiple (get_or ps k 0) (get_or ps (suc k) 0)
 
-module _ (ps : List ℕ) (rises : Rising ps) where
-  rises_by : (k i : ℕ) → i + k < length ps → get_or ps i 0 ≤ get_or ps (i + k) 0
-  rises_by zero i h = let e : i + 0 ≡ i = omega arith in rw e (le_refl _)
-  rises_by (suc k) i h =
-      let e : i + suc k ≡ suc (i + k) = omega arith in
-      rw e (le_trans (rises_by k i (omega arith)) (rises.rising (i + k) (omega arith)))
-
-  pub chain-start : Chain ps 1
-  chain-start k h = absurd (omega arith)
-
-  pub chain_more : (i : ℕ) → 1 ≤ i → Chain ps i → get_or ps i 0 % get_or ps (i - 1) 0 ≡ 0 → Chain ps (i + 1)
-  chain_more i some-i chain e k h = go (below-or-from (suc k) i)
-    where
-      go : (suc k < i) ⊎ (i ≤ suc k) → Multiple (get_or ps k 0) (get_or ps (suc k) 0)
-      go (inl below) = chain k below
-      go (inr at) =
-          let here : suc k ≡ i = omega arith in
-          let before : k ≡ i - 1 = omega arith in
-          rw (here, before) ((divides-tells (get_or ps (i - 1) 0) (get_or ps i 0)).0 (eq-eqb _ 0 e))
+module _ (ps es : List ℕ) (tasks : IsTaskList ps es) where
+  chain_of : EachDivides ps → Chain ps (length ps)
+  chain_of each k h =
+      let e : suc k ≡ k + 1 = omega arith in
+      rw e ((divides-tells (get_or ps k 0) (get_or ps (k + 1) 0)).0 (eq-eqb _ 0 (each k (omega arith))))
 
   along : Chain ps (length ps) → (k i : ℕ) → i + k < length ps → Multiple (get_or ps i 0) (get_or ps (i + k) 0)
   along chain zero i h = let e : i + 0 ≡ i = omega arith in rw e (1, omega arith)
@@ -85,18 +68,22 @@ module _ (ps : List ℕ) (rises : Rising ps) where
       let e : suc j - 1 ≡ j = omega arith in
       let f : suc k - 1 ≡ k = omega arith in
       let g : j + (k - j) ≡ k = omega arith in
-      let up : get_or ps j 0 ≤ get_or ps k 0 = subst (λ (n : ℕ). get_or ps j 0 ≤ get_or ps n 0) g (rises_by (k - j) j (omega arith)) in
+      let up : get_or ps j 0 ≤ get_or ps k 0 = subst (λ (n : ℕ). get_or ps j 0 ≤ get_or ps n 0) g (rising_to ps es tasks (k - j) j (omega arith)) in
       let two = (pairwise-tells ps).0 harmonic (suc j) (suc k) (omega arith) (omega arith) (omega arith) (omega arith) in
-      larger (get_or ps j 0) (get_or ps k 0) (rises.least j (omega arith)) up (rw (e, f) at two)
+      larger (get_or ps j 0) (get_or ps k 0) (tasks.period-least j (omega arith)) up (rw (e, f) at two)
 
-  -- neighbours of which the first does not divide the second
-  pub broken : (i : ℕ) → 1 ≤ i → i < length ps → (get_or ps i 0 % get_or ps (i - 1) 0 ≡ 0 → ⊥) → false ≡ pairwise ps
-  broken i some-i last-i rest = go (tested (pairwise ps))
+  -- so the test of neighbours tells of any two
+  pub harmonic_tells : (b : Bool) → (IsTrue b ↔ EachDivides ps) → b ≡ pairwise ps
+  harmonic_tells true tells = sym (chain_harmonic (chain_of (tells.0 refl)))
+  harmonic_tells false tells = go (tested (pairwise ps))
     where
       go : (pairwise ps ≡ true) ⊎ (pairwise ps ≡ false) → false ≡ pairwise ps
-      go (inl harmonic) =
-          let m = later harmonic (i - 1) i (omega arith) last-i in
-          absurd (rest (ap (λ (n : ℕ). n % get_or ps (i - 1) 0) m.1 ∙ mul-mod_left m.0 (get_or ps (i - 1) 0)))
+      go (inl harmonic) = tells.1 (λ k h. each k h) ∙ sym harmonic
+        where
+          each : (k : ℕ) → k + 1 < length ps → get_or ps (k + 1) 0 % get_or ps k 0 ≡ 0
+          each k h =
+              let m = later harmonic k (k + 1) (omega arith) h in
+              ap (λ (n : ℕ). n % get_or ps k 0) m.1 ∙ mul-mod_left m.0 (get_or ps k 0)
       go (inr gone) = sym gone
 
   -- P divides all where it divides the first
@@ -112,13 +99,5 @@ module _ (ps : List ℕ) (rises : Rising ps) where
       go (inl e) (inl f) = e ∙ sym f
       go (inl e) (inr f) = absurd ((multiples-tells ps P).1 f (all e))
       go (inr e) (inl f) =
-          absurd ((divides-tells P (get_or ps 0 0)).1 e ((multiples-tells ps P).0 f 1 (omega arith) rises.some-task))
+          absurd ((divides-tells P (get_or ps 0 0)).1 e ((multiples-tells ps P).0 f 1 (omega arith) tasks.some-task))
       go (inr e) (inr f) = e ∙ sym f
-
--- every form takes the period 1
-pub takes_one : (form : Form) (ps : List ℕ) → takes form 1 ps ≡ true
-unfolding multiples
-takes_one ordinary ps = refl
-takes_one aligned ps =
-    everywhere-all (λ k. divides 1 (get_or ps (k - 1) 0)) (length ps)
-    (λ k p l. eq-eqb (get_or ps (k - 1) 0 % 1) 0 (omega arith))

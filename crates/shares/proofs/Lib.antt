@@ -10,5 +10,4 @@ pub mod LeapLaws
 pub mod Walk
 pub mod Budgets
 pub mod BestShare
-pub mod ReplyLaws
 pub mod OneReply

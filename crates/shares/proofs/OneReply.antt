@@ -3,17 +3,15 @@
 use Prim.Native.Nat.{ℕ}
 use mathlib.Core.Path.{◌≡◌, refl, ap, sym, ◌∙◌}
 use Rattle.promise.specs.OneReply.{OneReply}
+use Rattle.std.specs.Prelude.{Bool, true, false, Result, Ok, Err}
 use Rattle.shares.specs.declared.answers.Refusal.{Refusal}
+use Rattle.shares.specs.declared.answers.Refusal.TheVariants.{BadCount, BadTask, FallingPeriod, BadShare, NoBudget, BadLength, NotAligned}
 use Rattle.shares.specs.declared.answers.Share.{Share}
-use Rattle.shares.specs.declared.answers.Ticks.{Ticks}
-use Rattle.shares.specs.declared.answers.Ticks.TheVariants.{Of, No as NoTicks}
-use Rattle.shares.specs.declared.answers.Verdict.{Verdict}
-use Rattle.shares.specs.declared.answers.Verdict.TheVariants.{Passes, Fails, No as NoVerdict}
-use Rattle.shares.specs.declared.answers.Budget.{Budget}
-use Rattle.shares.specs.declared.answers.Budget.TheVariants.{Least, No as NoBudget}
-use Rattle.shares.specs.declared.answers.Interface.{Interface}
-use Rattle.shares.specs.declared.answers.Interface.TheVariants.{Best, No as NoInterface}
 use Rattle.shares.specs.Paper.{paper_refusal, paper_ticks, paper_verdict, paper_budget, paper_interface}
+use Rattle.shares.proofs.answers.Refusal.number.Kinds as number
+use Rattle.shares.proofs.answers.Refusal.number.Reads as number-promise
+use Rattle.shares.proofs.answers.Refusal.detail.Kinds as detail
+use Rattle.shares.proofs.answers.Refusal.detail.Reads as detail-promise
 use Rattle.shares.proofs.calls.supply.Kinds as supply
 use Rattle.shares.proofs.calls.supply.Reads as supply-promise
 use Rattle.shares.proofs.calls.demand.Kinds as demand
@@ -25,16 +23,59 @@ use Rattle.shares.proofs.calls.least.Reads as least-promise
 use Rattle.shares.proofs.calls.best.Kinds as best
 use Rattle.shares.proofs.calls.best.Reads as best-promise
 
--- a struct is its fields
-same-refusal : (r s : Refusal) → paper_refusal r ≡ paper_refusal s → r ≡ s
-same-refusal r s e =
-    let a : r.number ≡ s.number = cc in
-    let b : r.detail ≡ s.detail = cc in
-    ap (λ (n : ℕ). made n r.detail) a ∙ ap (made s.number) b
-  where
-    made : ℕ → ℕ → Refusal
-    made n d = record { number = n; detail = d }
+-- a row is its number and its detail
+pub same-refusal : (r s : Refusal) → paper_refusal r ≡ paper_refusal s → r ≡ s
+same-refusal BadCount BadCount e = refl
+same-refusal BadCount (BadTask n) e = cc
+same-refusal BadCount (FallingPeriod n) e = cc
+same-refusal BadCount BadShare e = cc
+same-refusal BadCount NoBudget e = cc
+same-refusal BadCount BadLength e = cc
+same-refusal BadCount NotAligned e = cc
+same-refusal (BadTask m) BadCount e = cc
+same-refusal (BadTask m) (BadTask n) e = cc
+same-refusal (BadTask m) (FallingPeriod n) e = cc
+same-refusal (BadTask m) BadShare e = cc
+same-refusal (BadTask m) NoBudget e = cc
+same-refusal (BadTask m) BadLength e = cc
+same-refusal (BadTask m) NotAligned e = cc
+same-refusal (FallingPeriod m) BadCount e = cc
+same-refusal (FallingPeriod m) (BadTask n) e = cc
+same-refusal (FallingPeriod m) (FallingPeriod n) e = cc
+same-refusal (FallingPeriod m) BadShare e = cc
+same-refusal (FallingPeriod m) NoBudget e = cc
+same-refusal (FallingPeriod m) BadLength e = cc
+same-refusal (FallingPeriod m) NotAligned e = cc
+same-refusal BadShare BadCount e = cc
+same-refusal BadShare (BadTask n) e = cc
+same-refusal BadShare (FallingPeriod n) e = cc
+same-refusal BadShare BadShare e = refl
+same-refusal BadShare NoBudget e = cc
+same-refusal BadShare BadLength e = cc
+same-refusal BadShare NotAligned e = cc
+same-refusal NoBudget BadCount e = cc
+same-refusal NoBudget (BadTask n) e = cc
+same-refusal NoBudget (FallingPeriod n) e = cc
+same-refusal NoBudget BadShare e = cc
+same-refusal NoBudget NoBudget e = refl
+same-refusal NoBudget BadLength e = cc
+same-refusal NoBudget NotAligned e = cc
+same-refusal BadLength BadCount e = cc
+same-refusal BadLength (BadTask n) e = cc
+same-refusal BadLength (FallingPeriod n) e = cc
+same-refusal BadLength BadShare e = cc
+same-refusal BadLength NoBudget e = cc
+same-refusal BadLength BadLength e = refl
+same-refusal BadLength NotAligned e = cc
+same-refusal NotAligned BadCount e = cc
+same-refusal NotAligned (BadTask n) e = cc
+same-refusal NotAligned (FallingPeriod n) e = cc
+same-refusal NotAligned BadShare e = cc
+same-refusal NotAligned NoBudget e = cc
+same-refusal NotAligned BadLength e = cc
+same-refusal NotAligned NotAligned e = refl
 
+-- a struct is its fields
 same-share : (s t : Share) → s.period ≡ t.period → s.budget ≡ t.budget → s ≡ t
 same-share s t p b = ap (λ (P : ℕ). made P s.budget) p ∙ ap (made t.period) b
   where
@@ -42,34 +83,40 @@ same-share s t p b = ap (λ (P : ℕ). made P s.budget) p ∙ ap (made t.period)
     made P B = record { period = P; budget = B }
 
 -- the paper's number and values tell the answers apart
-pub same-ticks : (a b : Ticks) → paper_ticks a ≡ paper_ticks b → a ≡ b
-same-ticks (Of m) (Of n) e = cc
-same-ticks (Of m) (NoTicks s) e = cc
-same-ticks (NoTicks r) (Of n) e = cc
-same-ticks (NoTicks r) (NoTicks s) e = ap NoTicks (same-refusal r s e)
+pub same-ticks : (a b : Result ℕ Refusal) → paper_ticks a ≡ paper_ticks b → a ≡ b
+same-ticks (Ok m) (Ok n) e = cc
+same-ticks (Ok m) (Err s) e = cc
+same-ticks (Err r) (Ok n) e = cc
+same-ticks (Err r) (Err s) e = ap Err (same-refusal r s e)
 
-pub same_verdict : (a b : Verdict) → paper_verdict a ≡ paper_verdict b → a ≡ b
-same_verdict Passes Passes e = refl
-same_verdict Passes Fails e = cc
-same_verdict Passes (NoVerdict s) e = cc
-same_verdict Fails Passes e = cc
-same_verdict Fails Fails e = refl
-same_verdict Fails (NoVerdict s) e = cc
-same_verdict (NoVerdict r) Passes e = cc
-same_verdict (NoVerdict r) Fails e = cc
-same_verdict (NoVerdict r) (NoVerdict s) e = ap NoVerdict (same-refusal r s e)
+pub same_verdict : (a b : Result Bool Refusal) → paper_verdict a ≡ paper_verdict b → a ≡ b
+same_verdict (Ok true) (Ok true) e = refl
+same_verdict (Ok true) (Ok false) e = cc
+same_verdict (Ok true) (Err s) e = cc
+same_verdict (Ok false) (Ok true) e = cc
+same_verdict (Ok false) (Ok false) e = refl
+same_verdict (Ok false) (Err s) e = cc
+same_verdict (Err r) (Ok true) e = cc
+same_verdict (Err r) (Ok false) e = cc
+same_verdict (Err r) (Err s) e = ap Err (same-refusal r s e)
 
-pub same-budget : (a b : Budget) → paper_budget a ≡ paper_budget b → a ≡ b
-same-budget (Least m) (Least n) e = cc
-same-budget (Least m) (NoBudget s) e = cc
-same-budget (NoBudget r) (Least n) e = cc
-same-budget (NoBudget r) (NoBudget s) e = ap NoBudget (same-refusal r s e)
+pub same-budget : (a b : Result ℕ Refusal) → paper_budget a ≡ paper_budget b → a ≡ b
+same-budget (Ok m) (Ok n) e = cc
+same-budget (Ok m) (Err s) e = cc
+same-budget (Err r) (Ok n) e = cc
+same-budget (Err r) (Err s) e = ap Err (same-refusal r s e)
 
-pub same_interface : (a b : Interface) → paper_interface a ≡ paper_interface b → a ≡ b
-same_interface (Best s) (Best t) e = ap Best (same-share s t (cc) (cc))
-same_interface (Best s) (NoInterface r) e = cc
-same_interface (NoInterface r) (Best t) e = cc
-same_interface (NoInterface r) (NoInterface s) e = ap NoInterface (same-refusal r s e)
+pub same_interface : (a b : Result Share Refusal) → paper_interface a ≡ paper_interface b → a ≡ b
+same_interface (Ok s) (Ok t) e = ap Ok (same-share s t (cc) (cc))
+same_interface (Ok s) (Err r) e = cc
+same_interface (Err r) (Ok t) e = cc
+same_interface (Err r) (Err s) e = ap Err (same-refusal r s e)
+
+pub number-one : OneReply 0 number.ps number.r number-promise.Post
+number-one κs args a b x y p q = p ∙ sym q
+
+pub detail-one : OneReply 0 detail.ps detail.r detail-promise.Post
+detail-one κs args a b x y p q = p ∙ sym q
 
 pub supply-one : OneReply 0 supply.ps supply.r supply-promise.Post
 supply-one κs args a b x y p q = same-ticks a b (p ∙ sym q)

@@ -17,7 +17,7 @@ use Rattle.model.specs.Demand.{demand_of}
 use Rattle.model.specs.Share.{enough, meets, passes}
 use Rattle.model.proofs.Tests.{below-or-from, and-true, and_right, and_left}
 use Rattle.model.proofs.Places.{somewhere-at, nowhere, everywhere-at, everywhere-all, somewhere-grows, first-at, first-none}
-use Rattle.shares.specs.Private.{Tasks}
+use Rattle.shares.specs.Private.{IsTaskList}
 use Rattle.shares.proofs.SupplyCurve.{waited_of, reach_of, waited_grows, reached, reaches, supply-grows}
 use Rattle.shares.proofs.DemandCurve.{demand-longer, demand-more, demand-some}
 
@@ -29,7 +29,7 @@ NoneBetween ps es i t v s = (u : ℕ) → 1 ≤ u → t ≤ u → u < v → u �
 abbrev pub TooShort : Form → ℕ → ℕ → List ℕ → List ℕ → ℕ → ℕ → Type 0
 TooShort form P B ps es i t = (u : ℕ) → 1 ≤ u → u < t → u ≤ get_or ps i 0 → supply_of form P B u < demand_of ps es (suc i) u
 
-module _ (form : Form) (P B : ℕ) (ps es : List ℕ) (tasks : Tasks ps es) (pos : 1 ≤ B) (fits : B ≤ P) (i : ℕ) (some-i : i < length ps) where
+module _ (form : Form) (P B : ℕ) (ps es : List ℕ) (tasks : IsTaskList ps es) (pos : 1 ≤ B) (fits : B ≤ P) (i : ℕ) (some-i : i < length ps) where
   -- from t on a length that has enough has as many ticks to spare as the demand at t waits
   spares : (t u : ℕ) → 1 ≤ t → t ≤ u → demand_of ps es (suc i) u ≤ supply_of form P B u
       → demand_of ps es (suc i) u + waited_of form P B (demand_of ps es (suc i) t) ≤ u
@@ -73,7 +73,7 @@ module _ (form : Form) (P B : ℕ) (ps es : List ℕ) (tasks : Tasks ps es) (pos
   fails h = everywhere-at (λ i. meets form P B ps es i) (length ps) (suc i) (omega arith) some-i h
 
 -- a task that a budget meets, a larger one meets too
-pub meets-grows : (form : Form) (P B C : ℕ) (ps es : List ℕ) → Tasks ps es → 1 ≤ B → B ≤ C → C ≤ P → (i : ℕ) → i < length ps
+pub meets-grows : (form : Form) (P B C : ℕ) (ps es : List ℕ) → IsTaskList ps es → 1 ≤ B → B ≤ C → C ≤ P → (i : ℕ) → i < length ps
     → meets form P B ps es (suc i) ≡ true → meets form P C ps es (suc i) ≡ true
 unfolding meets
 meets-grows form P B C ps es tasks pos h fits i some-i =
@@ -100,7 +100,7 @@ pub record Walk (form : Form) (ps es : List ℕ) (P from b i t : ℕ) : Type 0 w
   pub met : b ≤ P → (k : ℕ) → k < i → meets form P b ps es (suc k) ≡ true
   pub short : TooShort form P b ps es i t
 
-module _ (form : Form) (ps es : List ℕ) (tasks : Tasks ps es) (P from : ℕ) (pos : 1 ≤ from) where
+module _ (form : Form) (ps es : List ℕ) (tasks : IsTaskList ps es) (P from : ℕ) (pos : 1 ≤ from) where
   pub walk_start : Walk form ps es P from from 0 1
   walk_start =
       record {

@@ -4,7 +4,7 @@ ghost use Rattle.std.specs.Prelude.{◌≡◌, ◌+◌, ◌*◌, ◌-◌, ◌/�
 ghost use Rattle.model.specs.Supply.{supply_of};
 ghost use Rattle.shares.specs.Paper.{paper_form};
 
-use crate::form::{Form, gaps_of};
+use crate::form::Form;
 
 pub(crate) fn supplied(form: Form, p: u32, b: u32, t: u32) -> u32
     requires { (1 ≤ b) × (b ≤ p) × (p ≤ 2000) × (t ≤ 2000) }
@@ -15,10 +15,10 @@ pub(crate) fn supplied(form: Form, p: u32, b: u32, t: u32) -> u32
         return 0;
     }
     // y leaves a gap out in the ordinary form, and none in the aligned one
-    let gaps = gaps_of(form);
+    let gaps = form.gaps();
     let y = (t - (gaps - 1) * g) / p;
     let lost = gaps * g + y * p;
-    if t < lost { y * b } else { y * b + (t - lost) }
+    y * b + t.saturating_sub(lost)
 }
 
 // How much longer than d ticks the shortest length is over which d ticks are supplied: the gaps before the

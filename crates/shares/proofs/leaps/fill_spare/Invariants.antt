@@ -5,7 +5,7 @@ use Prim.Native.Nat.{◌+◌, ◌-◌}
 use Rattle.shares.proofs.leaps.fill_spare.Given as goal
 
 abbrev pub invariant-loop-spare : goal.invariant-loop-spare
-invariant-loop-spare l = Entering l.periods l.costs l.leaps l.i l.t l.spare
+invariant-loop-spare l = Entering l.tasks.periods.now l.tasks.costs.now l.leaps l.i l.t l.spare
 
 abbrev pub decreases-loop-spare : goal.decreases-loop-spare
 decreases-loop-spare l = (l.t + 1) - l.spare

@@ -4,12 +4,9 @@ use Rattle.model.specs.Demand.{demand_of}
 use Rattle.shares.specs.Private.{Cells}
 use lib.ListN.{length}
 use mathlib.Core.Path.{◌≡◌}
-use Prim.Native.Nat.{◌+◌, ◌*◌, ◌-◌, ◌≤◌}
+use Prim.Native.Nat.{◌+◌, ◌*◌, ◌≤◌}
 use Rattle.shares.proofs.table.fill_length.Given as goal
 
 abbrev pub invariant-loop-i : goal.invariant-loop-i
 invariant-loop-i l =
-    (l.i ≤ length l.periods) × (length l.cells ≡ 32016) × (l.sum ≡ demand_of l.periods l.costs l.i l.t) × Cells l.periods l.costs l.cells (l.t * 16 + l.i)
-
-abbrev pub decreases-loop-i : goal.decreases-loop-i
-decreases-loop-i l = length l.periods - l.i
+    (l.i ≤ length l.tasks.periods.now) × (length l.cells ≡ 32016) × (l.sum ≡ demand_of l.tasks.periods.now l.tasks.costs.now l.i l.t) × Cells l.tasks.periods.now l.tasks.costs.now l.cells (l.t * 16 + l.i)
