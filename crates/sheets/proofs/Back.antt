@@ -8,22 +8,22 @@ use native.Mathlib.Omega.{arith}
 use lib.ListN.{length, take, drop, length-take}
 use lib.Seq.{take-append_seam, drop-append_seam}
 use borrow.Author.Tests.{lt-ltb, le-ltb}
+use Rattle.std.specs.Prelude.{Result, Ok, Err}
 use Rattle.text.specs.Text.{over}
+use Rattle.model.specs.Asked.{Work}
 use Rattle.model.specs.Reply.{gives, refuses}
 use Rattle.model.specs.Rows.{row}
-use Rattle.shares.specs.declared.answers.Refusal.{Refusal}
-use Rattle.sheets.specs.declared.answers.Lines.{Lines}
-use Rattle.sheets.specs.declared.answers.Lines.TheVariants.{Good, No as NoSheet}
-use Rattle.sheets.specs.declared.sheet.Sheet.{Sheet}
-use Rattle.sheets.specs.declared.sheet.Reading.{Reading}
+use Rattle.sheets.specs.declared.answers.BadLine.{BadLine}
+use Rattle.sheets.specs.declared.sheet.Sheet.TheInside.{Inside}
+use Rattle.sheets.specs.Kept.{work_of, ValidSheet}
 use Rattle.sheets.specs.Sheet.{sheet, bad, read_of}
 use Rattle.sheets.specs.Meaning.{Holds, FirstBad}
-use Rattle.sheets.specs.Paper.{work_of, text_of, paper_lines, paper_read, ValidSheet, ValidReading, Refused, write_reply, written_in}
+use Rattle.sheets.specs.Paper.{text_of, line_number, line_detail, paper_read, write_reply, written_in}
 use Rattle.sheets.proofs.Meaning.{same_bytes, same-sheet, reads-bad}
 use Rattle.sheets.proofs.Puts.{small-take}
 
--- the tasks of a valid sheet are such that a sheet can hold
-pub valid-holds : (s : Sheet) → ValidSheet s → Holds (work_of s)
+-- the tasks of a sheet of the code are such that a sheet can hold
+pub valid-holds : (s : Inside) → ValidSheet s → Holds (work_of s)
 valid-holds s v = record {
   paired = omega (arith, v.sized_periods, v.sized_costs, length-take s.count s.periods, length-take s.count s.costs);
   few = omega (arith, v.few, length-take s.count s.periods);
@@ -32,13 +32,12 @@ valid-holds s v = record {
 }
 
 -- so its text reads back the same tasks
-pub reads-back : (s : Sheet) → ValidSheet s → read_of (text_of s) ≡ sheet (work_of s)
+pub reads-back : (s : Inside) → ValidSheet s → read_of (text_of (work_of s)) ≡ sheet (work_of s)
 reads-back s v = same-sheet (work_of s) (valid-holds s v)
 
 -- and the text of a sheet that was read is what was read
-pub writes_back : (bytes : List ℕ) (r : Reading) → paper_read r ≡ read_of bytes → r.lines ≡ Good → text_of r.sheet ≡ bytes
-writes_back bytes r e good =
-    same_bytes bytes (work_of r.sheet) (sym e ∙ ap (λ l. paper_lines l r.sheet) good)
+pub writes_back : (bytes : List ℕ) (r : Result Work BadLine) (w : Work) → paper_read r ≡ read_of bytes → r ≡ Ok w → text_of w ≡ bytes
+writes_back bytes r w e good = same_bytes bytes w (sym e ∙ ap paper_read good)
 
 -- what `write` leaves: the text at the front where it has room, everything behind it as it was, and all of it where it has no room
 module _ (text area : List ℕ) where
@@ -64,16 +63,16 @@ module _ (text area : List ℕ) where
   unfolding written_in
   all-is-left full = ap (λ (t : Bool). cond t area (over text area)) (lt-ltb (length area) (length text) full)
 
--- every valid sheet: reading what `write` wrote gives the same tasks
-pub reads-written : (s : Sheet) (area : List ℕ) → ValidSheet s → length (text_of s) ≤ length area
-    → read_of (take (length (text_of s)) (written_in (text_of s) area)) ≡ sheet (work_of s)
-reads-written s area v room = ap read_of (front-is-text (text_of s) area room) ∙ reads-back s v
+-- every sheet of the code: reading what `write` wrote gives the same tasks
+pub reads-written : (s : Inside) (area : List ℕ) → ValidSheet s → length (text_of (work_of s)) ≤ length area
+    → read_of (take (length (text_of (work_of s))) (written_in (text_of (work_of s)) area)) ≡ sheet (work_of s)
+reads-written s area v room = ap read_of (front-is-text (text_of (work_of s)) area room) ∙ reads-back s v
 
 -- "37 first bad line or a 17th, with its number"
-pub told_37 : (bytes : List ℕ) (r : Reading) (k : ℕ) → paper_read r ≡ read_of bytes → ValidReading r → FirstBad bytes k
-    → (q : Refusal) × (r.lines ≡ NoSheet q) × (q.number ≡ 37) × (q.detail ≡ k)
-told_37 bytes r k e v f = go r.lines r.sheet (e ∙ (reads-bad bytes k).1 f) v.refused
+pub told_37 : (bytes : List ℕ) (r : Result Work BadLine) (k : ℕ) → paper_read r ≡ read_of bytes → FirstBad bytes k
+    → (q : BadLine) × (r ≡ Err q) × (line_number q ≡ 37) × (line_detail q ≡ k)
+told_37 bytes r k e f = go r (e ∙ (reads-bad bytes k).1 f)
   where
-    go : (l : Lines) (s : Sheet) → paper_lines l s ≡ bad k → Refused l s → (q : Refusal) × (l ≡ NoSheet q) × (q.number ≡ 37) × (q.detail ≡ k)
-    go Good s h w = let z : ◌≡◌ {A = ℕ} 0 1 = cc in absurd (omega arith)
-    go (NoSheet q) s h w = (q, refl, w.0, cc)
+    go : (l : Result Work BadLine) → paper_read l ≡ bad k → (q : BadLine) × (l ≡ Err q) × (line_number q ≡ 37) × (line_detail q ≡ k)
+    go (Ok w) h = cc
+    go (Err q) h = (q, refl, refl, cc)

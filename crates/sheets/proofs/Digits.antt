@@ -54,6 +54,11 @@ digits-before [] b more a e = rw e
 digits-before (x ∷ xs) b more a e =
     rw (le-leb 48 x a.0, le-leb x 57 a.1) (ap (λ (l : List ℕ). x ∷ l) (digits-before xs b more a.2 e))
 
+-- and digits alone are all digits
+pub digits_whole : (xs : List ℕ) → AllDigits xs → digits xs ≡ xs
+digits_whole [] a = refl
+digits_whole (x ∷ xs) a = rw (le-leb 48 x a.0, le-leb x 57 a.1) (ap (λ (l : List ℕ). x ∷ l) (digits_whole xs a.2))
+
 -- what the test of a number says
 pub number-means : (ds : List ℕ) → is_number ds ≡ true
     → (1 ≤ length ds) × (length ds ≤ 4) × ((length ds ≡ 1) ⊎ (get_or ds 0 0 ≡ 48 → ⊥))

@@ -1,5 +1,5 @@
 -- The laws of `sheets`: digits and the numbers that they say (Digits), one line and the lines behind it (OneLine), what reading means
--- (Meaning), what the code finds at a place, gathers and puts (Scan, Tasks, Puts), there and back (Back), computed sheets (Examples), and
+-- (Meaning), what the code finds, gathers and puts (Scan, Tasks, Puts), there and back (Back), computed sheets (Examples), and
 -- that each promise allows one reply (OneReply). Assumes nothing.
 pub mod Digits
 pub mod OneLine

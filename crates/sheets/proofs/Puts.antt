@@ -4,19 +4,20 @@ use Prim.Native.Nat.{ℕ, zero, suc, ◌+◌, ◌-◌, ◌*◌, ◌≤◌, ◌<�
 use mathlib.Core.Path.{◌≡◌, refl, ap, sym, ◌∙◌}
 use mathlib.Core.Bool.{Bool, true, false, cond}
 use mathlib.Core.List.{List, [], ◌∷◌, ◌++◌, append_assoc, append-nil}
+use mathlib.Core.Logic.{◌⊎◌, inl, inr}
 use native.Mathlib.Omega.{arith}
-use native.Mathlib.Numerals.{add-one}
 use lib.Dec.{ltb}
-use lib.ListN.{length, get_or, take, drop, set, length-append, length-take, length-set}
-use lib.Seq.{take-append_seam, take-suc, take_all}
+use lib.ListN.{length, take, drop, set, length-append, length-set}
+use lib.Seq.{take-append_seam}
 use borrow.Author.Tests.{lt-ltb, le-ltb}
 use Rattle.text.specs.Text.{decimal, field_in, end_in, text_in, over, Put}
 use Rattle.text.proofs.Writing.{put_two, put-over, put_as, put_first, put-size, field_put, end-put, text-put}
 use Rattle.model.specs.Reply.{gives, refuses}
 use Rattle.model.specs.Rows.{row}
-use Rattle.sheets.specs.declared.sheet.Sheet.{Sheet}
+use Rattle.model.specs.Asked.{Work}
 use Rattle.sheets.specs.Sheet.{line_of, written}
-use Rattle.sheets.specs.Paper.{text_of, ValidSheet, write_reply, written_in}
+use Rattle.sheets.specs.Meaning.{Holds}
+use Rattle.sheets.specs.Paper.{text_of, write_reply, written_in}
 use Rattle.sheets.specs.Private.{Small}
 use Rattle.sheets.proofs.Digits.{number-means, decimal-number}
 
@@ -80,47 +81,58 @@ module _ (o : List ℕ) (a p e : ℕ) (room : a + 10 ≤ length o) (small-p : p 
           let ended = (end-put o₂ end (omega (arith, apart.1, first.1, size)) last).0 in
           put_two first.0 (put_first o₁ space 32 (put_two apart.0 ended))
 
--- lines, one more at a time
-written-more : (ps es : List ℕ) (p e : ℕ) → length es ≡ length ps → written (ps ++ (p ∷ [])) (es ++ (e ∷ [])) ≡ written ps es ++ line_of p e
-written-more [] [] p e h = append-nil (line_of p e)
-written-more [] (y ∷ es) p e h = absurd (omega arith)
-written-more (x ∷ ps) [] p e h = absurd (omega arith)
-written-more (x ∷ ps) (y ∷ es) p e h =
-    ap (λ (l : List ℕ). line_of x y ++ l) (written-more ps es p e (omega arith)) ∙ sym (append_assoc (line_of x y) (written ps es) (line_of p e))
+-- so many lines are put, and those of the tasks left have room
+pub record Lined (o periods costs out : List ℕ) (at : ℕ) (ps es : List ℕ) : Type 0 where
+  pub text : List ℕ
+  pub put : Put o 0 text out at
+  pub all : written periods costs ≡ text ++ written ps es
+  pub paired : length es ≡ length ps
+  pub room : at + length ps * 10 ≤ length out
+  pub small-periods : Small ps
+  pub small-costs : Small es
 
-pub record Lined (o periods costs out : List ℕ) (at k : ℕ) : Type 0 where
-  pub few : k ≤ length periods
-  pub short : at ≤ k * 10
-  pub put : Put o 0 (written (take k periods) (take k costs)) out at
+pub lined-none : {o ps es : List ℕ} {w : Work} → Holds w → 160 ≤ length o → ps ≡ w.periods → es ≡ w.costs
+    → Lined o w.periods w.costs o 0 ps es
+lined-none {o} {ps} {es} {w} h size p e =
+    rw (p, e)
+    (record {
+      text = [];
+      put = record { behind = omega arith; stored = refl };
+      all = refl;
+      paired = h.paired;
+      room = omega (arith, h.few, size);
+      small-periods = h.small-periods;
+      small-costs = h.small-costs;
+    })
 
-pub lined-none : (o periods costs : List ℕ) → Lined o periods costs o 0 0
-lined-none o periods costs = record { few = omega arith; short = omega arith; put = record { behind = omega arith; stored = refl } }
+module _ {o periods costs out : List ℕ} {at : ℕ} {ps es : List ℕ} where
+  module _ (l : Lined o periods costs out at ps es) where
+    module _ {p e : ℕ} {ps' es' : List ℕ} (f : ps ≡ p ∷ ps') (g : es ≡ e ∷ es') where
+      left : Lined o periods costs out at (p ∷ ps') (e ∷ es')
+      left = rw (f, g) at l
 
-module _ (o periods costs out : List ℕ) (at k : ℕ) (paired : length costs ≡ length periods) (l : Lined o periods costs out at k)
-    (more : k < length periods) (small-p : Small periods) (small-e : Small costs) where
-  pub lined-more : (out' : List ℕ) (r : ℕ) → Put out at (line_of (get_or periods k 0) (get_or costs k 0)) out' r
-      → Lined o periods costs out' r (k + 1)
-  lined-more out' r p =
-      let x = get_or periods k 0 in
-      let y = get_or costs k 0 in
-      record {
-        few = omega arith;
-        short = omega (arith, l.short, p.behind, line-few x y (small-p k) (small-e k));
-        put = put_as
-            (sym
-            (rw add-one
-            (ap (λ (ps : List ℕ). written ps (take (suc k) costs)) (take-suc periods k 0 more)
-            ∙ ap (written (take k periods ++ (x ∷ []))) (take-suc costs k 0 (omega arith))
-            ∙ written-more (take k periods) (take k costs) x y (omega (arith, length-take k periods, length-take k costs)))))
-            (put_two l.put p);
+      pub line-room : (at + 10 ≤ length out) × (p ≤ 9999) × (e ≤ 9999)
+      line-room = (omega (arith, left.room), left.small-periods 0, left.small-costs 0)
+
+      pub lined-more : {out' : List ℕ} {r : ℕ} → Put out at (line_of p e) out' r → Lined o periods costs out' r ps' es'
+      lined-more {out'} {r} q = record {
+        text = left.text ++ line_of p e;
+        put = put_two left.put q;
+        all = left.all ∙ sym (append_assoc left.text (line_of p e) (written ps' es'));
+        paired = omega (arith, left.paired);
+        room = omega (arith, left.room, q.behind, put-size q, line-few p e (left.small-periods 0) (left.small-costs 0));
+        small-periods = λ i. left.small-periods (suc i);
+        small-costs = λ i. left.small-costs (suc i);
       }
 
-pub lined-all : (o periods costs out : List ℕ) (at k : ℕ) → length costs ≡ length periods → Lined o periods costs out at k → length periods ≤ k
-    → Put o 0 (written periods costs) out at
-lined-all o periods costs out at k paired l end =
-    put_as
-    (ap (λ (ps : List ℕ). written ps (take k costs)) (take_all k periods end) ∙ ap (written periods) (take_all k costs (omega arith)))
-    l.put
+    pub lined-all : (ps ≡ []) ⊎ (es ≡ []) → Put o 0 (written periods costs) out at
+    lined-all h = put_as (sym (l.all ∙ ap (λ (t : List ℕ). l.text ++ t) (none ps es l.paired h) ∙ append-nil l.text)) l.put
+      where
+        none : (ps es : List ℕ) → length es ≡ length ps → (ps ≡ []) ⊎ (es ≡ []) → written ps es ≡ []
+        none [] es k h = refl
+        none (p ∷ ps) [] k h = absurd (omega arith)
+        none (p ∷ ps) (e ∷ es) k (inl h) = cc
+        none (p ∷ ps) (e ∷ es) k (inr h) = cc
 
 -- the lines of at most 16 tasks have room in 160 bytes
 pub small-take : (l : List ℕ) (n : ℕ) → Small l → Small (take n l)
@@ -142,15 +154,8 @@ written-few (p ∷ ps) (e ∷ es) a b =
       length-append (line_of p e) (written ps es),
     )
 
-pub sheet-fits : (s : Sheet) → ValidSheet s → length (text_of s) ≤ 160
-sheet-fits s v =
-    omega (
-      arith,
-      v.few,
-      length-take s.count s.periods,
-      written-few (take s.count s.periods) (take s.count s.costs) (small-take s.periods s.count v.small-periods)
-          (small-take s.costs s.count v.small-costs),
-    )
+pub sheet-fits : (w : Work) → Holds w → length (text_of w) ≤ 160
+sheet-fits w h = omega (arith, h.few, written-few w.periods w.costs h.small-periods h.small-costs)
 
 -- a text of which `size` bytes stand at the front of o', and the area that it is to be written in
 module _ (o o' text : List ℕ) (size : ℕ) (fits : length text ≤ length o) (p : Put o 0 text o' size) where

@@ -1,249 +1,173 @@
--- Digits, a byte, a number and a line at a place of the bytes, as the code finds them there.
--- Assumes nothing.
-use Prim.Native.Nat.{ℕ, ◌+◌, ◌-◌, ◌*◌, ◌≤◌, ◌<◌}
-use mathlib.Core.Path.{◌≡◌, refl, ap, sym, ◌∙◌}
-use mathlib.Core.Bool.{Bool, true, false, cond, not, ◌&&◌, ◌||◌}
-use mathlib.Core.List.{List, [], ◌∷◌}
-use mathlib.Core.Logic.{inl}
+-- The digits that bytes begin with, a number and a line, as the code finds them there. Assumes nothing.
+use Prim.Native.Nat.{ℕ, zero, suc, ◌+◌, ◌-◌, ◌*◌, ◌≤◌, ◌<◌}
+use mathlib.Core.Path.{◌≡◌, refl, ap, sym, ◌∙◌, subst}
+use mathlib.Core.Bool.{Bool, true, false, cond, ◌&&◌}
+use mathlib.Core.List.{List, [], ◌∷◌, ◌++◌}
 use native.Mathlib.Omega.{arith}
 use native.Mathlib.Numerals.{add-one}
-use lib.Dec.{leb, eqb}
-use lib.ListN.{length, get_or, drop, length-drop, drop_of_length-le}
-use lib.Seq.{drop-cons, drop-drop}
-use borrow.Author.Tests.{le-leb, lt-leb, ne_eqb}
-use Rattle.model.proofs.Tests.{and_left, and_right, clash}
-use Rattle.text.specs.Text.{number, number_from}
-use Rattle.sheets.specs.declared.field.Number.TheVariants.{Is, None}
-use Rattle.sheets.specs.declared.line.Line.TheVariants.{Task, Bad}
-use Rattle.sheets.specs.Sheet.{is_digit, digits, behind_digits, is_number, starts, cost_at, is_line, behind_line}
-use Rattle.sheets.specs.Private.{number_read, line_size, line_read}
-use Rattle.sheets.proofs.Digits.{few-digits, digit-means, is-number}
-use Rattle.sheets.proofs.OneLine.{Parts, is-line, line-parts}
+use lib.ListN.{length, get_or, take, drop, length-append}
+use lib.Seq.{drop-cons, take-append_seam}
+use Rattle.std.specs.List.{prefix_len}
+use Rattle.std.specs.Prelude.{Option, Some, None, option_map}
+use Rattle.std.specs.Borrow.{Bor}
+use Rattle.text.specs.Text.{decimal, number, number_from}
+use Rattle.sheets.specs.Sheet.{is_digit, digits, behind_digits, is_number, starts, cost_at, is_line, behind_line, line_of}
+use Rattle.sheets.specs.Private.{number_read, after, ending, cost_read, behind_period, line_read, line_seen}
+use Rattle.sheets.proofs.OneLine.{line-said}
+use Rattle.sheets.proofs.Digits.{few-digits, split, AllDigits, all_digits_lem, digits_whole, is-number, said}
 
--- digits from the place k on
-module _ (s : List ℕ) (k : ℕ) where
-  pub digits-inside : k ≤ length s → k + length (digits (drop k s)) ≤ length s
-  digits-inside h = omega (arith, few-digits (drop k s), length-drop k s)
+-- the digits are the bytes up to the first that is none
+pub taken : (bs : List ℕ) → take (prefix_len is_digit bs) bs ≡ digits bs
+taken [] = refl
+taken (b ∷ bs) = go (is_digit b) (taken bs)
+  where
+    go : (t : Bool) → take (prefix_len is_digit bs) bs ≡ digits bs
+        → take (cond t (1 + prefix_len is_digit bs) 0) (b ∷ bs) ≡ cond t (b ∷ digits bs) []
+    go true h =
+        let one : 1 + prefix_len is_digit bs ≡ suc (prefix_len is_digit bs) = omega arith in
+        ap (λ (k : ℕ). take k (b ∷ bs)) one ∙ ap (λ (l : List ℕ). b ∷ l) h
+    go false h = refl
 
-  pub digits-end : length s ≤ k → digits (drop k s) ≡ []
-  digits-end h = ap digits (drop_of_length-le s h)
+pub front : (bs : List ℕ) → take (length (digits bs)) bs ≡ digits bs
+front bs = ap (take (length (digits bs))) (split bs) ∙ take-append_seam (digits bs) (behind_digits bs)
 
-  module _ (inside : k < length s) where
-    digits-at : digits (drop k s) ≡ cond (is_digit (get_or s k 0)) (get_or s k 0 ∷ digits (drop (k + 1) s)) []
-    digits-at = rw add-one (ap digits (drop-cons s k 0 inside))
-
-    pub digit-here : is_digit (get_or s k 0) ≡ true → digits (drop k s) ≡ get_or s k 0 ∷ digits (drop (k + 1) s)
-    digit-here e = digits-at ∙ ap (λ (t : Bool). cond t (get_or s k 0 ∷ digits (drop (k + 1) s)) []) e
-
-    pub no-digit-here : is_digit (get_or s k 0) ≡ false → digits (drop k s) ≡ []
-    no-digit-here e = digits-at ∙ ap (λ (t : Bool). cond t (get_or s k 0 ∷ digits (drop (k + 1) s)) []) e
-
-  -- where digits are left, one stands here
-  pub some-digit : 1 ≤ length (digits (drop k s))
-      → (48 ≤ get_or s k 0) × (get_or s k 0 ≤ 57) × (digits (drop k s) ≡ get_or s k 0 ∷ digits (drop (k + 1) s))
-  some-digit some =
-      let inside : k < length s = omega (arith, few-digits (drop k s), length-drop k s) in
-      go inside (is_digit (get_or s k 0)) refl
-    where
-      go : k < length s → (t : Bool) → is_digit (get_or s k 0) ≡ t
-          → (48 ≤ get_or s k 0) × (get_or s k 0 ≤ 57) × (digits (drop k s) ≡ get_or s k 0 ∷ digits (drop (k + 1) s))
-      go inside true e = let d = digit-means (get_or s k 0) e in (d.0, d.1, digit-here inside e)
-      go inside false e = absurd (omega (arith, some, ap length (no-digit-here inside e)))
+-- digits alone are all digits
+pub only_digits : (bs : List ℕ) → digits (digits bs) ≡ digits bs
+only_digits bs = digits_whole (digits bs) (all_digits_lem bs)
 
 -- more digits make no number smaller
-pub number-grows : (n : ℕ) (ds : List ℕ) → n ≤ number_from n ds
+number-grows : (n : ℕ) (ds : List ℕ) → n ≤ number_from n ds
 number-grows n [] = omega arith
 number-grows n (d ∷ ds) = omega (arith, number-grows (n * 10 + (d - 48)) ds)
 
--- one turn of the loop that reads a number: n so far, and the digits from k on are left
-pub record Turn (s : List ℕ) (end total n k : ℕ) : Type 0 where
-  pub here : k < length s
+all-at : (ds : List ℕ) (k : ℕ) → AllDigits ds → k < length ds → (48 ≤ get_or ds k 0) × (get_or ds k 0 ≤ 57)
+all-at [] k a h = absurd (omega arith)
+all-at (d ∷ ds) zero a h = (a.0, a.1)
+all-at (d ∷ ds) (suc k) a h = all-at ds k a.2 (omega arith)
+
+-- one turn of the loop that reads a number
+pub record Turn (s : List ℕ) (n k : ℕ) : Type 0 where
   pub low : 48 ≤ get_or s k 0
   pub high : get_or s k 0 ≤ 57
-  pub fits : n * 10 + (get_or s k 0 - 48) ≤ total
-  pub left : end ≡ k + 1 + length (digits (drop (k + 1) s))
-  pub same : number_from (n * 10 + (get_or s k 0 - 48)) (digits (drop (k + 1) s)) ≡ total
+  pub fits : n * 10 + (get_or s k 0 - 48) ≤ number s
+  pub same : number_from (n * 10 + (get_or s k 0 - 48)) (drop (k + 1) s) ≡ number s
 
-pub turn : (s : List ℕ) (end total n k : ℕ) → k < end → end ≡ k + length (digits (drop k s)) → number_from n (digits (drop k s)) ≡ total
-    → Turn s end total n k
-turn s end total n k more left same =
-    let d = some-digit s k (omega arith) in
-    let next = sym (ap (number_from n) d.2) ∙ same in
+pub turn : (s : List ℕ) (n k : ℕ) → digits s ≡ s → k < length s → number_from n (drop k s) ≡ number s → Turn s n k
+turn s n k all inside same =
+    let d = all-at s k (subst AllDigits all (all_digits_lem s)) inside in
+    let next : number_from (n * 10 + (get_or s k 0 - 48)) (drop (suc k) s) ≡ number s = sym (ap (number_from n) (drop-cons s k 0 inside)) ∙ same in
     record {
-      here = omega (arith, few-digits (drop k s), length-drop k s);
       low = d.0;
       high = d.1;
-      fits = omega (arith, next, number-grows (n * 10 + (get_or s k 0 - 48)) (digits (drop (k + 1) s)));
-      left = omega (arith, ap length d.2);
-      same = next;
+      fits = omega (arith, next, number-grows (n * 10 + (get_or s k 0 - 48)) (drop (suc k) s));
+      same = rw add-one next;
     }
 
-pub all_read : (ds : List ℕ) (n total : ℕ) → length ds ≡ 0 → number_from n ds ≡ total → n ≡ total
-all_read [] n total none same = same
-all_read (d ∷ ds) n total none same = absurd (omega arith)
+-- a number of one to four digits is small
+pub digits-fit : (s : List ℕ) → is_number (digits s) ≡ true → number (digits s) ≤ 9999
+digits-fit s e = (said (digits s) (all_digits_lem s) e).1
 
--- the test of a number, case by case
-module _ (ds : List ℕ) where
-  rest : Bool
-  rest = eqb (length ds) 1 || not (eqb (get_or ds 0 0) 48)
+pub ruleset cuts = (front, only_digits, few-digits, digits-fit)
 
-  pub no-digits : length ds ≡ 0 → false ≡ is_number ds
-  unfolding is_number rest
-  no-digits e =
-      sym (and_left (leb 1 (length ds) && leb (length ds) 4) rest (and_left (leb 1 (length ds)) (leb (length ds) 4) (lt-leb 1 (length ds) (omega arith))))
+-- a line, piece by piece
+after-is : (b : ℕ) (xs : List ℕ) → after b xs ≡ cond (starts b xs) (Some (drop 1 xs)) None
+after-is b [] = refl
+after-is b (x ∷ xs) = refl
 
-  pub too_many_digits : 4 < length ds → false ≡ is_number ds
-  unfolding is_number rest
-  too_many_digits e =
-      sym (and_left (leb 1 (length ds) && leb (length ds) 4) rest (and_right (leb 1 (length ds)) (leb (length ds) 4) (lt-leb (length ds) 4 e)))
+ending-is : (p e : ℕ) (xs : List ℕ) → ending p (Some (e, xs)) ≡ cond (starts 10 xs) (Some (p, e, drop 1 xs)) None
+ending-is p e xs = ap (λ (o : Option (List ℕ)). option_map found o) (after-is 10 xs) ∙ go (starts 10 xs)
+  where
+    found : List ℕ → ℕ × ℕ × List ℕ
+    found ys = (p, e, ys)
 
-  pub one-digit-alone : length ds ≡ 1 → true ≡ is_number ds
-  one-digit-alone e = sym (is-number ds (omega arith) (omega arith) (inl e))
+    go : (t : Bool) → option_map found (cond t (Some (drop 1 xs)) None) ≡ cond t (Some (p, e, drop 1 xs)) None
+    go true = refl
+    go false = refl
 
-  pub by-first-digit : 1 < length ds → length ds ≤ 4 → not (eqb (get_or ds 0 0) 48) ≡ is_number ds
-  unfolding is_number
-  by-first-digit some few =
-      rw (le-leb 1 (length ds) (omega arith), le-leb (length ds) 4 few, ne_eqb (length ds) 1 (λ e. absurd (omega arith)))
+cost-is : (p : ℕ) (xs : List ℕ)
+    → cost_read p (Some xs) ≡ cond (is_number (digits xs) && starts 10 (behind_digits xs)) (Some (p, number (digits xs), drop 1 (behind_digits xs))) None
+unfolding number_read
+cost-is p xs = go (is_number (digits xs))
+  where
+    go : (t : Bool) → ending p (cond t (Some (number (digits xs), behind_digits xs)) None)
+        ≡ cond (t && starts 10 (behind_digits xs)) (Some (p, number (digits xs), drop 1 (behind_digits xs))) None
+    go true = ending-is p (number (digits xs)) (behind_digits xs)
+    go false = refl
 
--- a byte at a place
-module _ (s : List ℕ) (k b : ℕ) where
-  pub starts-here : k < length s → starts b (drop k s) ≡ eqb (get_or s k 0) b
-  starts-here inside = ap (starts b) (drop-cons s k 0 inside)
+pub line-is : (bs : List ℕ) → line_read bs ≡ cond (is_line bs) (Some (number (digits bs), number (digits (cost_at bs)), behind_line bs)) None
+unfolding line_read number_read is_line
+line-is bs = go (is_number (digits bs))
+  where
+    p : ℕ
+    p = number (digits bs)
 
-  pub starts_none : length s ≤ k → starts b (drop k s) ≡ false
-  starts_none end = ap (starts b) (drop_of_length-le s end)
+    all : Option (ℕ × ℕ × List ℕ)
+    all = Some (number (digits bs), number (digits (cost_at bs)), behind_line bs)
 
-  pub starts-inside : starts b (drop k s) ≡ true → k < length s
-  starts-inside e = go (drop k s) e (length-drop k s)
-    where
-      go : (l : List ℕ) → starts b l ≡ true → length l ≡ length s - k → k < length s
-      go [] e h = absurd (clash e refl)
-      go (x ∷ l) e h = omega arith
+    rest : Bool
+    rest = is_number (digits (cost_at bs)) && starts 10 (behind_digits (cost_at bs))
 
--- a number that was read, and one that was not
-module _ (from : ℕ) (bs : List ℕ) where
-  pub number-bad : is_number (digits bs) ≡ false → None ≡ number_read from bs
-  unfolding number_read
-  number-bad e = rw e
+    spaced : (t : Bool) → cost_read p (cond t (Some (cost_at bs)) None) ≡ cond (t && rest) all None
+    spaced true = cost-is p (cost_at bs)
+    spaced false = refl
 
-  pub number-good : (n end : ℕ) → is_number (digits bs) ≡ true → n ≡ number (digits bs) → end ≡ from + length (digits bs)
-      → Is n end ≡ number_read from bs
-  unfolding number_read
-  number-good n end e a b = rw (e, a, b)
-
-  pub none_read : None ≡ number_read from bs → is_number (digits bs) ≡ false
-  unfolding number_read
-  none_read e = go (is_number (digits bs)) e
-    where
-      go : (t : Bool) → None ≡ cond t (Is (number (digits bs)) (from + length (digits bs))) None → t ≡ false
-      go true h = cc
-      go false h = refl
-
-  pub number_read_lem : (n end : ℕ) → Is n end ≡ number_read from bs
-      → (is_number (digits bs) ≡ true) × (n ≡ number (digits bs)) × (end ≡ from + length (digits bs))
-  unfolding number_read
-  number_read_lem n end e = go (is_number (digits bs)) e
-    where
-      go : (t : Bool) → Is n end ≡ cond t (Is (number (digits bs)) (from + length (digits bs))) None
-          → (t ≡ true) × (n ≡ number (digits bs)) × (end ≡ from + length (digits bs))
-      go true h = (refl, cc, cc)
-      go false h = (cc, cc, cc)
+    go : (t : Bool) → behind_period (cond t (Some (p, behind_digits bs)) None) ≡ cond ((t && starts 32 (behind_digits bs)) && rest) all None
+    go true = ap (cost_read p) (after-is 32 (behind_digits bs)) ∙ spaced (starts 32 (behind_digits bs))
+    go false = refl
 
 -- a line that was read, and one that was not
-module _ (from : ℕ) (bs : List ℕ) where
-  pub line-bad : is_line bs ≡ false → Bad ≡ line_read from bs
-  unfolding line_read
-  line-bad e = rw e
+abbrev said_line : List ℕ → Option (ℕ × ℕ × List ℕ)
+said_line bs = Some (number (digits bs), number (digits (cost_at bs)), behind_line bs)
 
-  pub line-good : (p e next : ℕ) → is_line bs ≡ true → p ≡ number (digits bs) → e ≡ number (digits (cost_at bs)) → next ≡ from + line_size bs
-      → Task p e next ≡ line_read from bs
-  unfolding line_read
-  line-good p e next t a b c = rw (t, a, b, c)
+pub no_line : (bs : List ℕ) → None ≡ line_read bs → is_line bs ≡ false
+no_line bs e = go (is_line bs) (e ∙ line-is bs)
+  where
+    go : (t : Bool) → None ≡ cond t (said_line bs) None → t ≡ false
+    go true h = cc
+    go false h = refl
 
-  pub bad-read : Bad ≡ line_read from bs → is_line bs ≡ false
-  unfolding line_read
-  bad-read e = go (is_line bs) e
-    where
-      go : (t : Bool) → Bad ≡ cond t (Task (number (digits bs)) (number (digits (cost_at bs))) (from + line_size bs)) Bad → t ≡ false
-      go true h = cc
-      go false h = refl
+pub record LineIs (bs : List ℕ) (p e : ℕ) (rest : List ℕ) : Type 0 where
+  pub line : is_line bs ≡ true
+  pub period : p ≡ number (digits bs)
+  pub cost : e ≡ number (digits (cost_at bs))
+  pub left : rest ≡ behind_line bs
 
-  pub task-read : (p e next : ℕ) → Task p e next ≡ line_read from bs
-      → (is_line bs ≡ true) × (p ≡ number (digits bs)) × (e ≡ number (digits (cost_at bs))) × (next ≡ from + line_size bs)
-  unfolding line_read
-  task-read p e next h = go (is_line bs) h
-    where
-      go : (t : Bool) → Task p e next ≡ cond t (Task (number (digits bs)) (number (digits (cost_at bs))) (from + line_size bs)) Bad
-          → (t ≡ true) × (p ≡ number (digits bs)) × (e ≡ number (digits (cost_at bs))) × (next ≡ from + line_size bs)
-      go true h = (refl, cc, cc, cc)
-      go false h = (cc, cc, cc, cc)
+line_said : (bs : List ℕ) (p e : ℕ) (rest : List ℕ) → line_read bs ≡ Some (p, e, rest) → LineIs bs p e rest
+line_said bs p e rest h = go (is_line bs) refl (sym (line-is bs) ∙ h)
+  where
+    found : Option (ℕ × ℕ × List ℕ) → ℕ × ℕ × List ℕ
+    found None = (0, 0, [])
+    found (Some l) = l
 
--- a line piece by piece, from the place `from` on
-module _ (s : List ℕ) (from : ℕ) where
-  abbrev bs : List ℕ
-  bs = drop from s
+    go : (t : Bool) → is_line bs ≡ t → cond t (said_line bs) None ≡ Some (p, e, rest) → LineIs bs p e rest
+    go true l k = record {
+      line = l;
+      period = sym (ap (λ o. (found o).0) k);
+      cost = sym (ap (λ o. (found o).1) k);
+      left = sym (ap (λ o. (found o).2) k);
+    }
+    go false l k = cc
 
-  without : (Parts bs → ⊥) → Bad ≡ line_read from bs
-  without never = line-bad from bs (go (is_line bs) refl)
-    where
-      go : (t : Bool) → is_line bs ≡ t → t ≡ false
-      go true e = absurd (never (line-parts bs e))
-      go false e = refl
+-- as the code sees them
+pub found_none : (bs : List ℕ) (r : Option (ℕ × ℕ × Bor (List ℕ))) → line_seen r ≡ line_read bs → r ≡ None → is_line bs ≡ false
+found_none bs r h e = no_line bs (sym (ap line_seen e) ∙ h)
 
-  pub no-period : None ≡ number_read from bs → Bad ≡ line_read from bs
-  no-period e = without (λ l. clash l.period (none_read from bs e))
+pub found_line : (bs : List ℕ) (r : Option (ℕ × ℕ × Bor (List ℕ))) (p e : ℕ) (b : Bor (List ℕ)) → line_seen r ≡ line_read bs
+    → r ≡ Some (p, e, b) → LineIs bs p e b.now
+found_line bs r p e b h k = line_said bs p e b.now (sym h ∙ ap line_seen k)
 
-  module _ (p space : ℕ) (period : Is p space ≡ number_read from bs) where
-    at-space : drop space s ≡ behind_digits bs
-    at-space = ap (λ (k : ℕ). drop k s) (number_read_lem from bs p space period).2 ∙ sym (drop-drop (length (digits bs)) from s)
+-- its numbers are small, and less is left than there was
+pub small_line : (bs : List ℕ) (p e : ℕ) (rest : List ℕ) → LineIs bs p e rest → (p ≤ 9999) × (e ≤ 9999)
+small_line bs p e rest l =
+    let b = line-said bs l.line in (omega (arith, b.small-period, l.period), omega (arith, b.small-cost, l.cost))
 
-    at-cost : drop (space + 1) s ≡ cost_at bs
-    at-cost = sym (drop-drop 1 space s) ∙ ap (drop 1) at-space
-
-    pub no-space : starts 32 (drop space s) ≡ false → Bad ≡ line_read from bs
-    no-space e = without (λ l. clash l.space (sym (ap (starts 32) at-space) ∙ e))
-
-    pub no-cost : None ≡ number_read (space + 1) (drop (space + 1) s) → Bad ≡ line_read from bs
-    no-cost e =
-        without (λ l. clash l.cost (sym (ap (λ (l : List ℕ). is_number (digits l)) at-cost) ∙ none_read (space + 1) (drop (space + 1) s) e))
-
-    module _ (e end : ℕ) (cost : Is e end ≡ number_read (space + 1) (drop (space + 1) s)) where
-      cost-said : (is_number (digits (drop (space + 1) s)) ≡ true) × (e ≡ number (digits (drop (space + 1) s)))
-          × (end ≡ space + 1 + length (digits (drop (space + 1) s)))
-      cost-said = number_read_lem (space + 1) (drop (space + 1) s) e end cost
-
-      at-end : drop end s ≡ behind_digits (cost_at bs)
-      at-end =
-          ap (λ (k : ℕ). drop k s) cost-said.2
-          ∙ sym (drop-drop (length (digits (drop (space + 1) s))) (space + 1) s)
-          ∙ ap behind_digits at-cost
-
-      pub no_end : starts 10 (drop end s) ≡ false → Bad ≡ line_read from bs
-      no_end h = without (λ l. clash l.end (sym (ap (starts 10) at-end) ∙ h))
-
-      pub whole : starts 32 (drop space s) ≡ true → starts 10 (drop end s) ≡ true → Task p e (end + 1) ≡ line_read from bs
-      whole apart ended =
-          let first = number_read_lem from bs p space period in
-          line-good from bs p e (end + 1)
-          (is-line bs
-          (record {
-            period = first.0;
-            space = sym (ap (starts 32) at-space) ∙ apart;
-            cost = sym (ap (λ (l : List ℕ). is_number (digits l)) at-cost) ∙ cost-said.0;
-            end = sym (ap (starts 10) at-end) ∙ ended;
-          }))
-          first.1 (cost-said.1 ∙ ap (λ (l : List ℕ). number (digits l)) at-cost)
-          (omega (arith, first.2, cost-said.2, ap (λ (l : List ℕ). length (digits l)) at-cost))
-
--- what a line that was read leaves to be read
-pub next-line : (s : List ℕ) (from : ℕ) → is_line (drop from s) ≡ true
-    → (drop (from + line_size (drop from s)) s ≡ behind_line (drop from s)) × (from + line_size (drop from s) ≤ length s)
-next-line s from e =
-    let bs = drop from s in
-    let a = length (digits bs) in
-    let c = length (digits (cost_at bs)) in
-    let far : (n : ℕ) → drop n (cost_at bs) ≡ drop (from + (a + 1 + n)) s =
-    λ n. ap (drop n) (drop-drop 1 a bs) ∙ drop-drop n (a + 1) bs ∙ drop-drop (a + 1 + n) from s in (
-      sym (drop-drop 1 c (cost_at bs) ∙ far (c + 1)),
-      omega (arith, starts-inside s (from + (a + 1 + c)) 10 (sym (ap (starts 10) (far c)) ∙ (line-parts bs e).end)),
+pub less-left : (bs : List ℕ) (p e : ℕ) (rest : List ℕ) → LineIs bs p e rest → length rest < length bs
+less-left bs p e rest l =
+    let b = line-said bs l.line in
+    omega (
+      arith,
+      ap length b.same,
+      ap length l.left,
+      length-append (line_of (number (digits bs)) (number (digits (cost_at bs)))) (behind_line bs),
+      length-append (decimal (number (digits bs))) (32 ∷ (decimal (number (digits (cost_at bs))) ++ (10 ∷ []))),
     )

@@ -1,16 +1,43 @@
-// What reading and writing answer. specs/Paper.antt gives the paper's number and values for each case.
-use shares::Refusal;
+// Why a sheet is not read or not written. specs/Paper.antt gives the paper's number and detail of each.
+ghost use Rattle.std.specs.Prelude.{◌≡◌};
+ghost use Rattle.sheets.specs.Paper.{line_number, line_detail, room_number, room_detail};
 
-// Whether every line is good, and if not which is the first bad one.
-#[derive(Clone, Copy)]
-pub enum Lines {
-    Good,
-    No(Refusal),
+// "37 first bad line or a 17th, with its number", counted from 1.
+#[derive(Clone, Copy, Debug, PartialEq, Eq)]
+pub struct BadLine(pub u32);
+
+// Each refusal has its own rows, and nothing is generic over them: a trait of `number` and `detail` would be one name more.
+impl BadLine {
+    // The row's number.
+    pub fn number(self) -> u32
+        ensures { result ≡ line_number self }
+    {
+        37
+    }
+
+    // The line.
+    pub fn detail(self) -> u32
+        ensures { result ≡ line_detail self }
+    {
+        self.0
+    }
 }
 
-// How many bytes were put, or that there is no room for them.
-#[derive(Clone, Copy)]
-pub enum Writing {
-    Put(usize),
-    No(Refusal),
+// "40 no room to write".
+#[derive(Clone, Copy, Debug, PartialEq, Eq)]
+pub struct NoRoom;
+
+impl NoRoom {
+    // The row's number.
+    pub fn number(self) -> u32
+        ensures { result ≡ room_number self }
+    {
+        40
+    }
+
+    pub fn detail(self) -> u32
+        ensures { result ≡ room_detail self }
+    {
+        0
+    }
 }

@@ -8,5 +8,5 @@ mod line;
 mod put;
 mod sheet;
 
-pub use answers::{Lines, Writing};
-pub use sheet::{Reading, Sheet, read};
+pub use answers::{BadLine, NoRoom};
+pub use sheet::Sheet;

@@ -1,45 +1,21 @@
 // One line of a sheet: period, one space, cost and newline.
-ghost use Rattle.std.specs.Prelude.{◌≡◌, ◌≤◌, length, drop};
-ghost use Rattle.sheets.specs.Sheet.{starts};
-ghost use Rattle.sheets.specs.Private.{line_read};
+ghost use Rattle.std.specs.Prelude.{◌≡◌};
+ghost use Rattle.sheets.specs.Private.{line_read, line_seen};
 
-use crate::field::{Number, number_at};
+use crate::field::number;
 
-fn is_at(s: &[u8], at: usize, byte: u8) -> bool
-    ensures { result ≡ starts byte (drop at s.now) }
+// The period and the cost of the line that the bytes begin with, and what stands behind it.
+#[tactic(auto, unfolding(crate::specs::Private::line_read))]
+pub(crate) fn line(s: &[u8]) -> Option<(u32, u32, &[u8])>
+    ensures { line_seen result ≡ line_read s.now }
 {
-    if s.len() <= at {
-        return false;
-    }
-    s[at] == byte
-}
-
-// A period, a cost and the place behind their line.
-#[derive(Clone, Copy)]
-pub(crate) enum Line {
-    Task(u32, u32, usize),
-    Bad,
-}
-
-pub(crate) fn line_at(s: &[u8], from: usize) -> Line
-    requires { from ≤ length s.now }
-    ensures { result ≡ line_read from (drop from s.now) }
-{
-    let first = number_at(s, from);
-    let Number::Is(period, space) = first else {
-        return Line::Bad;
+    let (period, rest) = number(s)?;
+    let [b' ', rest @ ..] = rest else {
+        return None;
     };
-    let apart = is_at(s, space, b' ');
-    if !apart {
-        return Line::Bad;
-    }
-    let second = number_at(s, space + 1);
-    let Number::Is(cost, end) = second else {
-        return Line::Bad;
+    let (cost, rest) = number(rest)?;
+    let [b'\n', rest @ ..] = rest else {
+        return None;
     };
-    let ended = is_at(s, end, b'\n');
-    if !ended {
-        return Line::Bad;
-    }
-    Line::Task(period, cost, end + 1)
+    Some((period, cost, rest))
 }
