@@ -1,25 +1,15 @@
 -- The carriage return at the end of a line. Assumes nothing.
-use Prim.Native.Nat.{ℕ, ◌-◌, ◌≤◌}
-use mathlib.Core.Path.{◌≡◌, refl, ap, ◌∙◌}
+use Prim.Native.Nat.{ℕ, ◌-◌}
+use mathlib.Core.Path.{◌≡◌, ap}
 use mathlib.Core.Bool.{Bool, true, false, cond}
-use mathlib.Core.List.{List, [], ◌∷◌}
+use mathlib.Core.List.{List}
 use native.Mathlib.Omega.{arith}
 use lib.Dec.{eqb}
 use lib.ListN.{length, get_or, take}
 use lib.Seq.{take_all, length-take-le}
-use borrow.Author.Tests.{eq-eqb, ne_eqb}
 use Rattle.queries.specs.Meaning.{trimmed}
 
 module _ (l : List ℕ) where
-  pub trimmed-return : get_or l (length l - 1) 0 ≡ 13 → 1 ≤ length l → length (trimmed l) ≡ length l - 1
-  trimmed-return e some =
-      ap (λ (t : Bool). length (cond t (take (length l - 1) l) l)) (eq-eqb (get_or l (length l - 1) 0) 13 e)
-      ∙ length-take-le (length l - 1) l (omega arith)
-
-  pub trimmed-plain : (get_or l (length l - 1) 0 ≡ 13 → ⊥) → length (trimmed l) ≡ length l
-  trimmed-plain e =
-      ap (λ (t : Bool). length (cond t (take (length l - 1) l) l)) (ne_eqb (get_or l (length l - 1) 0) 13 e)
-
   -- what is left is the front of the line
   pub trimmed-front : take (length (trimmed l)) l ≡ trimmed l
   trimmed-front = go (eqb (get_or l (length l - 1) 0) 13)
@@ -27,7 +17,3 @@ module _ (l : List ℕ) where
       go : (t : Bool) → take (length (cond t (take (length l - 1) l) l)) l ≡ cond t (take (length l - 1) l) l
       go true = ap (λ (n : ℕ). take n l) (length-take-le (length l - 1) l (omega arith))
       go false = take_all (length l) l (omega arith)
-
-pub trimmed-empty : (l : List ℕ) → length l ≡ 0 → length (trimmed l) ≡ 0
-trimmed-empty [] e = refl
-trimmed-empty (x ∷ l) e = absurd (omega arith)

@@ -5,16 +5,13 @@ use mathlib.Core.Bool.{Bool, true, false, ◌&&◌}
 use mathlib.Core.List.{List, [], ◌∷◌}
 use native.Mathlib.Omega.{arith}
 use native.Mathlib.Numerals.{add-one}
-use lib.Dec.{leb, ltb}
+use lib.Dec.{leb}
 use lib.ListN.{length, get_or, drop}
 use lib.Seq.{drop-cons}
-use borrow.Author.Tests.{lt-ltb, leb-true, leb-false}
-use Rattle.model.proofs.Tests.{and_right}
+use borrow.Author.Tests.{leb-true, leb-false}
 use Rattle.text.specs.Text.{number_from}
-use Rattle.text.proofs.Same.{none_left}
-use Rattle.queries.specs.declared.field.Number.TheVariants.{Is, None}
 use Rattle.queries.specs.Meaning.{is_digit, all_digits}
-use Rattle.queries.specs.Private.{with_digit, capped, number_read}
+use Rattle.queries.specs.Private.{with_digit}
 
 -- more digits make no number smaller
 number-grows : (n : ℕ) (f : List ℕ) → n ≤ number_from n f
@@ -42,20 +39,3 @@ module _ (f : List ℕ) (k : ℕ) (inside : k < length f) where
   pub digits-next : is_digit (get_or f k 0) ≡ true → all_digits (drop k f) ≡ all_digits (drop (k + 1) f)
   digits-next e =
       rw add-one (ap all_digits (drop-cons f k 0 inside) ∙ ap (λ (t : Bool). t && all_digits (drop (suc k) f)) e)
-
-  pub no_digit : is_digit (get_or f k 0) ≡ false → all_digits (drop k f) ≡ false
-  no_digit e = ap all_digits (drop-cons f k 0 inside) ∙ ap (λ (t : Bool). t && all_digits (drop (suc k) f)) e
-
--- what was read
-module _ (f : List ℕ) where
-  pub read-empty : length f ≡ 0 → None ≡ number_read f
-  read-empty e = go (none_left f 0 (omega arith))
-    where
-      go : f ≡ [] → None ≡ number_read f
-      go z = rw z
-
-  pub read_none : all_digits f ≡ false → None ≡ number_read f
-  read_none e = rw (and_right (ltb 0 (length f)) (all_digits f) e)
-
-  pub read_number : (n : ℕ) → 0 < length f → all_digits f ≡ true → n ≡ capped f → Is n ≡ number_read f
-  read_number n some e m = rw (lt-ltb 0 (length f) some, e, m)

@@ -1,6 +1,6 @@
 -- The numbers that are kept get the reply that those of the line get: they are alike, and where the line has more than 17 tasks, row 30
 -- refuses both. Assumes nothing.
-use Prim.Native.Nat.{ℕ, zero, suc, ◌+◌, ◌-◌, ◌*◌, ◌/◌, ◌≤◌, ◌<◌}
+use Prim.Native.Nat.{ℕ, zero, suc, ◌+◌, ◌-◌, ◌*◌, ◌/◌, ◌≤◌, ◌<◌, min}
 use mathlib.Core.Path.{◌≡◌, refl, ap, sym, ◌∙◌, subst}
 use mathlib.Core.Bool.{Bool, true, false}
 use mathlib.Core.List.{List, [], ◌∷◌, map}
@@ -22,9 +22,17 @@ use Rattle.queries.specs.declared.ask.Word.{Word}
 use Rattle.queries.specs.declared.ask.Word.TheVariants.{Supply, Demand, Check, Least, Best}
 use Rattle.queries.specs.Text.{line_of}
 use Rattle.queries.specs.Meaning.{heads, every_other, question, asks}
-use Rattle.queries.specs.Private.{Kept, periods_of, costs_of, EveryOther, Answers}
+use Rattle.queries.specs.declared.ask.Fields.{Fields}
+use Rattle.queries.specs.Private.{Kept, EveryOther, Answers}
 use Rattle.queries.proofs.Alike.{Alike, alike-kept, supply-alike}
 use Rattle.queries.proofs.AlikeTasks.{Alikes, demand-alike, check-alike, least-alike, best-alike}
+
+-- of n numbers of tasks, the periods and the costs that are handed on: 17 are too many already
+abbrev periods_of : ℕ → ℕ
+periods_of n = (min n 34 + 1) / 2
+
+abbrev costs_of : ℕ → ℕ
+costs_of n = min n 34 / 2
 
 abbrev skipped : Bool → ℕ
 skipped true = 0
@@ -146,12 +154,13 @@ module _ (fs : List (List ℕ)) (numbers : List ℕ) (k : Kept fs numbers) where
       tasks-same 1 ps es h (omega arith) s t p e _ _ (λ a b. best-alike _ _ _ _ a b _ _ (alike_at 0 (omega arith) (omega arith)) form)
 
 -- so what the word asks is answered, with the counts as the code has them
-pub asked-reply : (form : Form) (w : Word) (numbers : List ℕ) (count h p c : ℕ) (ps es text : List ℕ) → h ≡ heads w → p ≡ periods_of (count - h)
-    → c ≡ costs_of (count - h) → length ps ≡ 17 → length es ≡ 17 → EveryOther numbers h ps → EveryOther numbers (h + 1) es → heads w ≤ count
-    → text ≡ line_of (reply_to (question form w (get_or numbers 0 0) (get_or numbers 1 0) (get_or numbers 2 0) (record { periods = take p ps; costs = take c es })))
-    → Answers form w numbers count text
-asked-reply form w numbers count h p c ps es text eh ep ec s t a b inside e fs k n =
+pub asked-reply : (form : Form) (w : Word) (r : Fields) (h n : ℕ) (ps es text : List ℕ) → h ≡ heads w → n ≡ min (r.count - h) 34
+    → length ps ≡ 17 → length es ≡ 17 → EveryOther r.numbers h ps → EveryOther r.numbers (h + 1) es → heads w ≤ r.count
+    → text ≡ line_of (reply_to (question form w (get_or r.numbers 0 0) (get_or r.numbers 1 0) (get_or r.numbers 2 0)
+    (record { periods = take ((n + 1) / 2) ps; costs = take (n / 2) es })))
+    → Answers form w r text
+asked-reply form w r h n ps es text eh en s t a b inside e fs k c =
     e
-    ∙ rw (ep, ec, eh, n)
-    (ap line_of (kept-reply fs numbers k form w ps es (omega arith) s t (subst (λ (i : ℕ). EveryOther numbers i ps) eh a)
-    (subst (λ (i : ℕ). EveryOther numbers (i + 1) es) eh b)))
+    ∙ rw (en, eh, c)
+    (ap line_of (kept-reply fs r.numbers k form w ps es (omega arith) s t (subst (λ (i : ℕ). EveryOther r.numbers i ps) eh a)
+    (subst (λ (i : ℕ). EveryOther r.numbers (i + 1) es) eh b)))

@@ -1,12 +1,12 @@
 -- What a line means: from its bytes, without the newline, to the bytes of the answer; and so what an input means. Assumes nothing.
-use Rattle.std.specs.Prelude.{ℕ, suc, ◌-◌, Bool, true, false, cond, not, ◌&&◌, ◌||◌, List, [], ◌∷◌, ◌++◌, map, leb, ltb, eqb, length, get_or, take, drop}
+use Rattle.std.specs.Prelude.{ℕ, suc, ◌-◌, Bool, true, false, cond, not, ◌&&◌, ◌||◌, Option, Some, None, List, [], ◌∷◌, ◌++◌, map, leb, ltb, eqb, length, get_or, take, drop}
 use Rattle.text.specs.Text.{number, same}
 use Rattle.model.specs.Form.{Form, ordinary, aligned}
 use Rattle.model.specs.Asked.{Work, Asked, supply, demand, check, least, best, reply_to}
 use Rattle.queries.specs.declared.ask.Word.{Word}
 use Rattle.queries.specs.declared.ask.Word.TheVariants.{Supply, Demand, Check, Least, Best}
 use Rattle.queries.specs.declared.ask.Spoken.{Spoken}
-use Rattle.queries.specs.declared.ask.Spoken.TheVariants.{Known, Help, Unknown}
+use Rattle.queries.specs.declared.ask.Spoken.TheVariants.{Known, Help}
 use Rattle.queries.specs.Text.{said, bad_word, bad_field, bad_line, help, line_of}
 
 -- the bytes before the first b
@@ -20,15 +20,15 @@ behind b [] = []
 behind b (x ∷ xs) = cond (eqb x b) (until b xs ∷ behind b xs) (behind b xs)
 
 -- "supply", "demand", "check", "least", "best", "help"
-unfoldable pub spoken_of : List ℕ → Spoken
+unfoldable pub spoken_of : List ℕ → Option Spoken
 spoken_of word =
-    cond (same word (115 ∷ 117 ∷ 112 ∷ 112 ∷ 108 ∷ 121 ∷ [])) (Known Supply)
-    (cond (same word (100 ∷ 101 ∷ 109 ∷ 97 ∷ 110 ∷ 100 ∷ [])) (Known Demand)
-    (cond (same word (99 ∷ 104 ∷ 101 ∷ 99 ∷ 107 ∷ [])) (Known Check)
-    (cond (same word (108 ∷ 101 ∷ 97 ∷ 115 ∷ 116 ∷ [])) (Known Least)
-    (cond (same word (98 ∷ 101 ∷ 115 ∷ 116 ∷ [])) (Known Best)
-    (cond (same word (104 ∷ 101 ∷ 108 ∷ 112 ∷ [])) Help
-    Unknown)))))
+    cond (same word (115 ∷ 117 ∷ 112 ∷ 112 ∷ 108 ∷ 121 ∷ [])) (Some (Known Supply))
+    (cond (same word (100 ∷ 101 ∷ 109 ∷ 97 ∷ 110 ∷ 100 ∷ [])) (Some (Known Demand))
+    (cond (same word (99 ∷ 104 ∷ 101 ∷ 99 ∷ 107 ∷ [])) (Some (Known Check))
+    (cond (same word (108 ∷ 101 ∷ 97 ∷ 115 ∷ 116 ∷ [])) (Some (Known Least))
+    (cond (same word (98 ∷ 101 ∷ 115 ∷ 116 ∷ [])) (Some (Known Best))
+    (cond (same word (104 ∷ 101 ∷ 108 ∷ 112 ∷ [])) (Some Help)
+    None)))))
 
 abbrev pub is_digit : ℕ → Bool
 is_digit b = leb 48 b && leb b 57
@@ -88,22 +88,22 @@ asks form w ns = question form w (get_or ns 0 0) (get_or ns 1 0) (get_or ns 2 0)
 abbrev pub unless_bad : ℕ → List ℕ → List ℕ
 unless_bad k rest = cond (eqb k 0) rest (said bad_field (k ∷ []))
 
-abbrev pub fields_mean : Form → Spoken → List (List ℕ) → List ℕ
-fields_mean form Unknown fields = said bad_word []
-fields_mean form Help [] = said help []
-fields_mean form Help (f ∷ fs) = said bad_field (1 ∷ [])
-fields_mean form (Known w) fields = unless_bad (first_bad w 1 fields) (line_of (reply_to (asks form w (map number fields))))
+abbrev pub fields_mean : Form → Option Spoken → List (List ℕ) → List ℕ
+fields_mean form None fields = said bad_word []
+fields_mean form (Some Help) [] = said help []
+fields_mean form (Some Help) (f ∷ fs) = said bad_field (1 ∷ [])
+fields_mean form (Some (Known w)) fields = unless_bad (first_bad w 1 fields) (line_of (reply_to (asks form w (map number fields))))
 
 -- "aligned" stands before four words; the others are unknown there
-abbrev pub word_in : Form → Spoken → Spoken
+abbrev pub word_in : Form → Option Spoken → Option Spoken
 word_in ordinary spoken = spoken
-word_in aligned (Known Supply) = Known Supply
-word_in aligned (Known Demand) = Unknown
-word_in aligned (Known Check) = Known Check
-word_in aligned (Known Least) = Known Least
-word_in aligned (Known Best) = Known Best
-word_in aligned Help = Unknown
-word_in aligned Unknown = Unknown
+word_in aligned (Some (Known Supply)) = Some (Known Supply)
+word_in aligned (Some (Known Demand)) = None
+word_in aligned (Some (Known Check)) = Some (Known Check)
+word_in aligned (Some (Known Least)) = Some (Known Least)
+word_in aligned (Some (Known Best)) = Some (Known Best)
+word_in aligned (Some Help) = None
+word_in aligned None = None
 
 -- a word and its fields; no piece is no word
 abbrev pub pieces_mean : Form → List (List ℕ) → List ℕ

@@ -1,54 +1,46 @@
-// The line that an answer is written as.
-ghost use Rattle.std.specs.Prelude.{[], ◌∷◌, map, ◌+◌, ◌≤◌, length, take};
-ghost use Rattle.text.specs.Text.{decimal, fields, Put};
-ghost use Rattle.queries.specs.Text.{longest};
-ghost use Rattle.queries.specs.Private.{head_text, text_of};
+// The line that an answer is written as. It is put into the lent buffer in parts: `writeln!` there costs three times as much.
+ghost use Rattle.std.specs.Prelude.{◌≤◌, length};
+ghost use Rattle.text.specs.Text.{Put};
+ghost use Rattle.queries.specs.Text.{said, longest};
+ghost use Rattle.queries.specs.Private.{text_of};
 
-use crate::answers::{Answer, Head};
+use crate::answers::{Fault, Told};
 use text::{put_end, put_field, put_text};
 
 // No line of an answer has more bytes: a text of at most 216, two numbers behind a space each, and a newline.
 pub const LONGEST_ANSWER: usize = 259;
 
-fn put_head(out: &mut [u8], at: usize, head: Head) -> usize
-    requires { at + 216 ≤ length out.old }
-    ensures { Put out.old at (head_text head) out.new result }
+const HELP: &[u8] =
+    b"supply P B t | demand i t TASKS | check P B TASKS | least P TASKS | best PMAX TASKS (TASKS: period cost period cost ..) | aligned before supply, check, least or best: for tasks released at starts of a resource period";
+
+// A text, each number behind a space, and a newline.
+fn put_line(out: &mut [u8], text: &[u8], numbers: &[u64]) -> usize
+    requires { (longest ≤ length out.old) × (length text.now ≤ 216) × (length numbers.now ≤ 2) }
+    ensures { Put out.old 0 (said text.now numbers.now) out.new result × (result ≤ longest) }
 {
-    match head {
-        Head::Ok => put_text(out, at, b"ok"),
-        Head::No => put_text(out, at, b"no"),
-        Head::BadWord => put_text(out, at, b"bad word"),
-        Head::BadField => put_text(out, at, b"bad field"),
-        Head::BadLine => put_text(out, at, b"bad line"),
-        Head::Help => put_text(
-            out,
-            at,
-            b"supply P B t | demand i t TASKS | check P B TASKS | least P TASKS | best PMAX TASKS (TASKS: period cost period cost ..) | aligned before supply, check, least or best: for tasks released at starts of a resource period",
-        ),
+    let mut at = put_text(out, 0, text);
+    for &n in numbers {
+        at = put_field(out, at, n);
     }
+    put_end(out, at)
 }
 
-// The first `count` of the two numbers, each behind a space, and a newline.
-fn put_numbers(out: &mut [u8], at: usize, count: usize, first: u64, second: u64) -> usize
-    requires { at + 43 ≤ length out.old }
-    ensures { Put out.old at (fields (map decimal (take count (first ∷ second ∷ [])))) out.new result × (result ≤ at + 43) }
-{
-    if count == 0 {
-        return put_end(out, at);
-    }
-    let next = put_field(out, at, first);
-    if count == 1 {
-        return put_end(out, next);
-    }
-    let last = put_field(out, next, second);
-    put_end(out, last)
-}
-
-pub(crate) fn put_answer(out: &mut [u8], answer: Answer) -> usize
+#[tactic(auto, unfolding(crate::specs::Text::help))]
+pub(crate) fn put_answer(out: &mut [u8], answer: Result<Told, Fault>) -> usize
     requires { longest ≤ length out.old }
     ensures { Put out.old 0 (text_of answer) out.new result × (result ≤ longest) }
 {
-    let head = answer.head;
-    let at = put_head(out, 0, head);
-    put_numbers(out, at, answer.count, answer.first, answer.second)
+    match answer {
+        Ok(Told::Help) => put_line(out, HELP, &[]),
+        Ok(Told::Number(n)) => put_line(out, b"ok", &[u64::from(n)]),
+        Ok(Told::Share(s)) => put_line(out, b"ok", &[u64::from(s.period), u64::from(s.budget)]),
+        Err(Fault::BadLine) => put_line(out, b"bad line", &[]),
+        Err(Fault::BadWord) => put_line(out, b"bad word", &[]),
+        Err(Fault::BadField(k)) => put_line(out, b"bad field", &[k as u64]),
+        Err(Fault::Refused(r)) => put_line(
+            out,
+            b"no",
+            &[u64::from(r.number()), u64::from(r.detail())],
+        ),
+    }
 }

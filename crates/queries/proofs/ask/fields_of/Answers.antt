@@ -1,70 +1,55 @@
-use Prim.Native.Nat.{ℕ, ◌+◌, ◌-◌, ◌≤◌}
-use mathlib.Core.Path.{◌≡◌, ap, sym, ◌∙◌, subst}
-use native.Mathlib.Omega.{arith}
-use lib.ListN.{length, take, drop}
-use Rattle.queries.proofs.Fields.{Reading, too_many_here, no_number, last-field, next_field}
-use Rattle.queries.proofs.Pieces.{end-inside, piece_is}
-use mathlib.Core.List.{List}
-use Rattle.queries.specs.Meaning.{until}
-use Rattle.queries.specs.Private.{number_read, pieces_from, FieldsAre}
+use Rattle.std.proofs.Common.{◌≡◌, ◌+◌, ◌<◌, sym, ◌∙◌, subst, rules, tests, eqb, ℕ, List, arith, length, get_or}
+use Rattle.std.proofs.lemmas.Iterator.Consumers.{YieldsList-at, YieldsList-turn, YieldsList-end}
+use Rattle.std.proofs.lemmas.Iterator.Splits.{YieldsList-from_slice_split}
+use Rattle.std.proofs.lemmas.List.{length_push}
+use Rattle.queries.specs.Private.{pieces}
+use Rattle.queries.proofs.Pieces.{parts-are}
+use Rattle.queries.proofs.Fields.{Reading, too_many_here, no_number, next_field, missing, all-read}
 use Rattle.queries.proofs.ask.fields_of.Goals as goal
-use Rattle.queries.proofs.ask.fields_of.Goals.{After-find-end}
+use Rattle.queries.proofs.ask.fields_of.Goals.{In-Some, In-None}
 
--- the place behind the search for the field's end, and what is known there
-abbrev Found : Type 0
-Found = After-find-end
+-- the field of this turn is the next piece
+turn : (c : In-Some) → (c.loop-field.count < length (pieces 32 c.args.line.now)) × (c.in-Some.field.now ≡ get_or (pieces 32 c.args.line.now) c.loop-field.count c.in-Some.field.now)
+turn c =
+    rw (parts-are 32 c.args.line.now, sym c.loop-field.invariant.0) at (YieldsList-turn (YieldsList-at c.into_iter-field-iterator.ensures.into_iter_gives
+    (YieldsList-from_slice_split _ (λ y. eqb y 32) c.args.line.now c.split-field-items.ensures.rest c.split-field-items.ensures.done c.split-field-items.ensures.closure
+    (λ x b q k. search (rules, tests)))) c.loop-field.yielded _ c.loop-field.yielded_by _ _ c.in-Some.field c.in-Some.is c.next.ensures.steps)
 
-abbrev line : Found → List ℕ
-line c = c.args.line.now
+-- at the end all were read
+all : (c : In-None) → c.loop-field.count ≡ length (pieces 32 c.args.line.now)
+all c =
+    let e = rw (parts-are 32 c.args.line.now) at (YieldsList-end (YieldsList-at c.into_iter-field-iterator.ensures.into_iter_gives
+    (YieldsList-from_slice_split _ (λ y. eqb y 32) c.args.line.now c.split-field-items.ensures.rest c.split-field-items.ensures.done c.split-field-items.ensures.closure
+    (λ x b q k. search (rules, tests)))) c.loop-field.yielded _ c.loop-field.yielded_by _ _ c.in-None.is c.next.ensures.steps).1 in
+    c.loop-field.invariant.0 ∙ e
 
-ends : (c : Found) → (c.loop-word.from ≤ c.find-end.result) × (c.find-end.result ≤ length (line c))
-ends c = end-inside 32 (line c) c.loop-word.from c.find-end.result c.loop-word.invariant.inside c.find-end.ensures
-
-field : (c : Found) → take (c.find-end.result - c.loop-word.from) (drop c.loop-word.from (line c)) ≡ until 32 (drop c.loop-word.from (line c))
-field c = piece_is 32 (line c) c.loop-word.from c.find-end.result c.loop-word.invariant.inside c.find-end.ensures
-
-pub slice_bounds-number_of-end : goal.slice_bounds-number_of-end
-slice_bounds-number_of-end c = omega (arith, ends c)
-
-pub returns-then-many : goal.returns-then-many
-returns-then-many c =
-    let g = (goal.at.returns-then-many c).After-find-end in
-    let l = g.loop-word in
-    let a = g.args in
-    too_many_here a.word (line g) a.start l.numbers l.count l.from g.find-end.result l.invariant g.find-end.ensures
-    (sym c.is_too_many-many.ensures ∙ c.if-many.true)
+pub returns-then-is_too_many : goal.returns-then-is_too_many
+returns-then-is_too_many c =
+    let t = turn (goal.at.returns-then-is_too_many c).In-Some in
+    too_many_here c.args.word (pieces 32 c.args.line.now) c.loop-field.numbers c.loop-field.count c.loop-field.invariant.1 c.in-Some.field.now t.0 t.1
+    (sym c.is_too_many.ensures ∙ c.if-is_too_many.true)
 
 pub returns-in_default : goal.returns-in_default
 returns-in_default c =
-    let g = (goal.at.returns-in_default c).After-find-end in
-    let l = g.loop-word in
-    let a = g.args in
-    no_number a.word (line g) a.start l.numbers l.count l.from g.find-end.result l.invariant g.find-end.ensures
-    (sym c.in_default.is ∙ c.number_of-number.ensures ∙ ap number_read (field g))
+    let t = turn (goal.at.returns-in_default c).In-Some in
+    no_number c.args.word (pieces 32 c.args.line.now) c.loop-field.numbers c.loop-field.count c.loop-field.invariant.1 c.in-Some.field.now t.0 t.1
+    (sym c.in_default.is ∙ c.number_of.ensures)
 
-pub returns-then-end-line : goal.returns-then-end-line
-returns-then-end-line c =
-    let g = (goal.at.returns-then-end-line c).After-find-end in
-    let l = g.loop-word in
-    let a = g.args in
-    let all = last-field a.word (line g) a.start l.numbers l.count l.from g.find-end.result l.invariant g.find-end.ensures _
-    (sym c.is_too_many-many.ensures ∙ c.if-many.false) (sym c.in-Is.is ∙ c.number_of-number.ensures ∙ ap number_read (field g))
-    c.missing-bad.result c.if-end-line.true c.missing-bad.ensures in
-    subst (λ (ns : List ℕ). FieldsAre a.word (pieces_from 32 a.start (line g)) (record { numbers = ns; count = l.count + 1; bad = c.missing-bad.result }))
-    (sym c.keep.ensures) all
+pub loop-field-preserved : goal.loop-field-preserved
+loop-field-preserved c =
+    let t = turn (goal.at.loop-field-preserved c).In-Some in
+    let next = next_field c.args.word (pieces 32 c.args.line.now) c.loop-field.numbers c.loop-field.count c.loop-field.invariant.1 c.in-Some.field.now t.0 t.1 _
+    (sym c.is_too_many.ensures ∙ c.if-is_too_many.false) (sym c.in-Some-number_of.is ∙ c.number_of.ensures) in (
+      omega (arith, c.loop-field.invariant.0, length_push c.loop-field.yielded c.in-Some.field),
+      subst (λ (ns : List ℕ). Reading c.args.word (pieces 32 c.args.line.now) ns (c.loop-field.count + 1)) (sym c.keep.ensures) next,
+    )
 
-pub overflow_add-from : goal.overflow_add-from
-overflow_add-from c = omega (arith, ends (goal.at.overflow_add-from c).After-find-end, c.if-end-line.false)
+pub returns-then-next-heads : goal.returns-then-next-heads
+returns-then-next-heads c =
+    missing c.args.word (pieces 32 c.args.line.now) c.loop-field.numbers c.loop-field.count c.loop-field.invariant.1
+    (all (goal.at.returns-then-next-heads c).In-None) (omega (arith, c.heads.ensures.0, c.if-next-heads.true))
 
-pub loop-word-smaller : goal.loop-word-smaller
-loop-word-smaller c = omega (arith, ends (goal.at.loop-word-smaller c).After-find-end, c.if-end-line.false)
-
-pub loop-word-preserved : goal.loop-word-preserved
-loop-word-preserved c =
-    let g = (goal.at.loop-word-preserved c).After-find-end in
-    let l = g.loop-word in
-    let a = g.args in
-    let next = next_field a.word (line g) a.start l.numbers l.count l.from g.find-end.result l.invariant g.find-end.ensures _
-    (sym c.is_too_many-many.ensures ∙ c.if-many.false) (sym c.in-Is.is ∙ c.number_of-number.ensures ∙ ap number_read (field g))
-    c.if-end-line.false in
-    subst (λ (ns : List ℕ). Reading a.word (line g) a.start ns (l.count + 1) (g.find-end.result + 1)) (sym c.keep.ensures) next
+pub returns : goal.returns
+returns c =
+    all-read c.args.word (pieces 32 c.args.line.now) c.loop-field.numbers c.loop-field.count c.loop-field.invariant.1
+    (all (goal.at.returns c).In-None) (omega (arith, c.heads.ensures.0, c.if-next-heads.false))
