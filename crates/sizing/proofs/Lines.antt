@@ -17,7 +17,7 @@ use Rattle.queries.specs.Meaning.{until}
 use Rattle.queries.proofs.Pieces.{end-inside, piece_is}
 use Rattle.sizing.specs.Program.{Run, further, line_answer, serve_of}
 use Rattle.sizing.specs.Goes.{Went}
-use Rattle.sizing.proofs.Serving.{run-same, in_three, serve_rest, serve_line}
+use Rattle.sizing.specs.Serving.{run-same, in_three, serve_rest, serve_line}
 
 -- lines answered so far: up to `used`, with their answers in front of the room
 pub record Done (begun : Bool) (part out : List ℕ) (long : Bool) (used written : ℕ) : Type 0 where

@@ -1,46 +1,18 @@
 -- What serving in one piece leaves: the line that has begun, unless it is too long; at the end of the input nothing. And what it
 -- answers: the lines that have ended, and at the end of the input all of it. Assumes nothing.
-use Prim.Native.Nat.{ℕ, ◌+◌, ◌≤◌}
+use Prim.Native.Nat.{ℕ, ◌+◌}
 use mathlib.Core.Path.{◌≡◌, refl, ap, sym, ◌∙◌}
-use mathlib.Core.Bool.{Bool, true, false, cond, ◌||◌}
+use mathlib.Core.Bool.{Bool, true, false, cond}
 use mathlib.Core.List.{List, [], ◌∷◌, ◌++◌, append_assoc}
 use native.Mathlib.Omega.{arith}
 use lib.ListN.{length, drop}
-use borrow.Author.Tests.{ltb-false}
 use Rattle.queries.specs.Meaning.{until, behind, is_long, line_means, lines_mean, input_means}
-use Rattle.model.proofs.Tests.{or_neither}
-use Rattle.sizing.specs.Program.{Run, served, serve_of, ended}
+use Rattle.reads.specs.Machine.{ended}
+use Rattle.sizing.specs.Program.{Run, served, serve_of, newline}
 use Rattle.sizing.specs.Meaning.{all_but_last, last_of, ended_lines, begun_line, Begins}
-use Rattle.sizing.proofs.Cutting.{end-behind, sizes, all-sizes}
-use Rattle.sizing.proofs.Serving.{any-cut}
-
--- how many bytes of the last line wait
-abbrev waiting : Bool → List ℕ → List (List ℕ) → ℕ
-waiting long l [] = cond (long || is_long l) 0 (length l)
-waiting long l (m ∷ ms) = waiting false m ms
-
-used-or-waits : (long : Bool) (l : List ℕ) (ms : List (List ℕ)) → (served long l ms).used + waiting long l ms ≡ sizes l ms
-used-or-waits long l [] = go (long || is_long l)
-  where
-    go : (t : Bool) → cond t (length l) 0 + cond t 0 (length l) ≡ length l
-    go true = omega arith
-    go false = omega arith
-used-or-waits long l (m ∷ ms) = omega (arith, used-or-waits false m ms)
-
-few_wait : (long : Bool) (l : List ℕ) (ms : List (List ℕ)) → waiting long l ms ≤ 65535
-few_wait long l [] = go (long || is_long l) refl
-  where
-    go : (t : Bool) → (long || is_long l) ≡ t → cond t 0 (length l) ≤ 65535
-    go true e = omega arith
-    go false e = omega (arith, ltb-false 65535 (length l) (or_neither long (is_long l) e).1)
-few_wait long l (m ∷ ms) = few_wait false m ms
-
-pub used-few : (long : Bool) (s : List ℕ) → ((serve_of long s).used ≤ length s) × (length s ≤ (serve_of long s).used + 65535)
-used-few long s =
-    let w = used-or-waits long (until 10 s) (behind 10 s) in
-    let f = few_wait long (until 10 s) (behind 10 s) in
-    let a = all-sizes 10 s in
-    (omega (arith, w, a), omega (arith, w, f, a))
+use Rattle.sizing.specs.Cutting.{end-behind, all-sizes}
+use Rattle.sizing.specs.Serving.{any-cut}
+use Rattle.sizing.specs.Laws.{waiting, used-or-waits}
 
 waits-last : (l : List ℕ) (ms : List (List ℕ)) → waiting false l ms ≡ cond (is_long (last_of l ms)) 0 (length (last_of l ms))
 waits-last l [] = refl
@@ -65,7 +37,7 @@ none-waits : (long : Bool) (l : List ℕ) (ms : List (List ℕ)) → waiting lon
 none-waits long l [] = refl
 none-waits long l (m ∷ ms) = none-waits false m ms
 
-pub end-used : (long : Bool) (s : List ℕ) → (serve_of long (ended true s)).used ≡ length (ended true s)
+pub end-used : (long : Bool) (s : List ℕ) → (serve_of long (ended newline true s)).used ≡ length (ended newline true s)
 end-used long s =
     let t : List ℕ = s ++ (10 ∷ []) in
     let e = end-behind 10 s in
@@ -84,7 +56,7 @@ all_but_end : (l : List ℕ) (ms : List (List ℕ)) → all_but_last l (ms ++ ([
 all_but_end l [] = refl
 all_but_end l (m ∷ ms) = ap (λ (x : List (List ℕ)). l ∷ x) (all_but_end m ms)
 
-pub all-answered : (s : List ℕ) → (serve_of false (ended true s)).text ≡ input_means s
+pub all-answered : (s : List ℕ) → (serve_of false (ended newline true s)).text ≡ input_means s
 all-answered s =
     let e = end-behind 10 s in
     ended-answered (s ++ (10 ∷ []))

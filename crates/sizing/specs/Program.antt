@@ -1,12 +1,11 @@
 -- What the program makes of its reads: each line is answered when its newline has come, and the last one at the end of the input. A run
 -- of it is `Ran program`, as crate `reads` has it for every program. Assumes nothing.
-use Rattle.std.specs.Prelude.{ℕ, suc, ◌+◌, ◌-◌, Bool, true, false, cond, ◌||◌, List, [], ◌∷◌, ◌++◌, eqb, ℤ, pos, negsuc, length}
-use Rattle.reads.specs.declared.Standing.TheVariants.{GoesOn, ReadFailed}
-use Rattle.reads.specs.Reads.{standing}
+use Rattle.std.specs.Prelude.{ℕ, suc, ◌+◌, Bool, false, cond, ◌||◌, List, [], ◌∷◌, ◌++◌, length, Option, Some, None}
+use Rattle.reads.specs.Machine.{Serving, Round, program_of}
 use Rattle.reads.specs.Program.{Program}
 use Rattle.queries.specs.Text.{said, bad_line}
 use Rattle.queries.specs.Meaning.{until, behind, is_long, line_means}
-use Rattle.sizing.specs.declared.Round.{Round}
+use Rattle.sizing.specs.declared.Sizer.{Sizer}
 
 -- what serving some bytes gives: whether the line that has begun is too long already, how many bytes are used, and the answers
 pub record Run : Type 0 where
@@ -35,35 +34,23 @@ served long l (m ∷ ms) = further (record { long = false; used = suc (length l)
 abbrev pub serve_of : Bool → List ℕ → Run
 serve_of long s = served long (until 10 s) (behind 10 s)
 
--- the end of the input ends the last line
-abbrev pub ended : Bool → List ℕ → List ℕ
-ended last s = cond last (s ++ (10 ∷ [])) s
-
--- the bytes s, which begin at `offset`, are served, and those that are not used are held
-abbrev pub served_part : Bool → ℕ → List ℕ → Bool → Round
-served_part long offset s last =
-    let run : Run = serve_of long s in
+-- what the machine makes of the bytes s, wherever they begin
+abbrev pub run_of : Serving Sizer
+run_of m offset s last =
     record {
-      long = run.long;
-      offset = offset + run.used;
-      held = length s - run.used;
-      standing = standing true false last (offset + run.used);
+      machine = record { long = (serve_of m.long s).long };
+      used = (serve_of m.long s).used;
+      text = (serve_of m.long s).text;
+      end = None;
     }
 
--- a round with the bytes s to serve: the read's answer 0 is the end of the input, and one below 0 a read that failed
-abbrev pub round_of : Bool → ℕ → ℕ → List ℕ → ℤ → Round
-round_of long offset held s (pos k) = served_part long offset (ended (eqb k 0) s) (eqb k 0)
-round_of long offset held s (negsuc k) = record { long = long; offset = offset; held = held; standing = ReadFailed }
+-- before any line
+abbrev pub begun : Sizer
+begun = record { long = false }
 
--- after a read, with s all bytes that came: they are served in one piece
-abbrev pub after_read : ℤ → List ℕ → Round → Round
-after_read (pos k) s before = served_part false 0 (ended (eqb k 0) s) (eqb k 0)
-after_read (negsuc k) s before = record { long = before.long; offset = before.offset; held = before.held; standing = ReadFailed }
+-- the end of the input is a newline to it
+abbrev pub newline : Option ℕ
+newline = Some 10
 
-abbrev pub program : Program Round
-program =
-    record {
-      standing_of = λ r. r.standing;
-      start = record { long = false; offset = 0; held = 0; standing = GoesOn };
-      after = after_read;
-    }
+abbrev pub program : Program (Round Sizer)
+program = program_of run_of newline begun

@@ -16,7 +16,7 @@ use Rattle.queries.specs.Meaning.{until, behind, is_long}
 use Rattle.queries.proofs.Meaning.{long-means}
 use Rattle.queries.proofs.Pieces.{until-few, behind-none, behind_more}
 use Rattle.sizing.specs.Program.{Run, further, rests, line_answer, served, serve_of}
-use Rattle.sizing.proofs.Cutting.{until-all, until-ended, begun_goes_on}
+use Rattle.sizing.specs.Cutting.{until-all, until-ended, begun_goes_on}
 
 pub run-same : {a b : Bool} {m n : ℕ} {x y : List ℕ} → a ≡ b → m ≡ n → x ≡ y
     → ◌≡◌ {A = Run} (record { long = a; used = m; text = x }) (record { long = b; used = n; text = y })
