@@ -1,39 +1,31 @@
 -- What a question has and wants: its fields counted byte by byte, and what is put where they are not its own. Assumes nothing.
-use Prim.Native.Nat.{ℕ, suc, ◌+◌, ◌≤◌, ◌<◌, min}
+use Prim.Native.Nat.{ℕ, zero, suc, ◌≤◌, min}
 use mathlib.Core.Path.{◌≡◌, refl, ap, sym, ◌∙◌, subst}
 use mathlib.Core.Bool.{Bool, true, false, cond}
 use mathlib.Core.List.{List, [], ◌∷◌, ◌++◌}
 use native.Mathlib.Omega.{arith}
-use native.Mathlib.Numerals.{add-one}
 use lib.Dec.{eqb}
-use lib.ListN.{length, get_or, take, drop}
-use lib.Seq.{drop-cons}
+use Rattle.std.specs.Prelude.{filter}
+use Rattle.std.proofs.Common.{Some, None, rules, tests}
+use lib.ListN.{length, take}
 use borrow.Author.Tests.{eq-eqb, ne_eqb}
 use Rattle.text.specs.Text.{decimal, field_in, text_in, end_in, Put}
-use Rattle.text.proofs.Same.{none_left}
 use Rattle.text.proofs.Writing.{put_as, put_two, put-size, put-over, text-put, field_put, end-put}
 use Rattle.model.specs.Asked.{Work}
 use Rattle.queries.specs.Text.{said, bad_word, bad_field, Written}
 use Rattle.queries.specs.Meaning.{until, behind}
 use Rattle.queries.proofs.Pieces.{until-take}
-use Rattle.sales.specs.Sales.{task_fields, both_forms, wanted, given, is_asked, unasked, to_sizing}
+use Rattle.sales.specs.Sales.{task_fields, both_forms, wants_of, wanted, given, is_asked, unasked, to_sizing}
 
--- a space more is a field more
-pub given-next : (s : List ℕ) (k count : ℕ) → k < length s
-    → count + given (drop k s) ≡ cond (eqb (get_or s k 0) 32) (suc count) count + given (drop (k + 1) s)
-given-next s k count inside = rw add-one (ap (λ (l : List ℕ). count + given l) (drop-cons s k 0 inside) ∙ go (eqb (get_or s k 0) 32))
+-- one field behind each space
+pub given-spaces : (s : List ℕ) → length (filter (λ (b : ℕ). eqb b 32) s) ≡ given s
+given-spaces [] = refl
+given-spaces (x ∷ xs) = go (eqb x 32) (given-spaces xs)
   where
-    go : (t : Bool) → count + length (cond t (until 32 (drop (suc k) s) ∷ behind 32 (drop (suc k) s)) (behind 32 (drop (suc k) s)))
-        ≡ cond t (suc count) count + given (drop (suc k) s)
-    go true = omega arith
-    go false = refl
-
-pub given-few : (t : Bool) (n : ℕ) → cond t (suc n) n ≤ n + 1
-given-few true n = omega arith
-given-few false n = omega arith
-
-pub given-none : (s : List ℕ) (k : ℕ) → length s ≤ k → given (drop k s) ≡ 0
-given-none s k h = ap given (none_left s k h)
+    go : (t : Bool) → length (filter (λ (b : ℕ). eqb b 32) xs) ≡ given xs
+        → length (cond t (x ∷ filter (λ (b : ℕ). eqb b 32) xs) (filter (λ (b : ℕ). eqb b 32) xs)) ≡ length (cond t (until 32 xs ∷ behind 32 xs) (behind 32 xs))
+    go true h = ap suc h
+    go false h = h
 
 -- a bad field
 pub field_told : (o : List ℕ) (k n : ℕ) {o₁ o₂ o₃ : List ℕ} {a b c : ℕ} → n ≡ k → 1024 ≤ length o → Put o 0 (text_in o 0 bad_field) o₁ a
@@ -59,6 +51,22 @@ no_word w g e = rw (eq-eqb w 0 e)
 
 pub bad-place : (w g k : ℕ) → (w ≡ 0 → ⊥) → k ≡ suc (min g w) → said bad_field (k ∷ []) ≡ unasked w g
 bad-place w g k e h = rw (ne_eqb w 0 e) (ap (λ (n : ℕ). said bad_field (n ∷ [])) h)
+
+-- a word that wants none, and one that wants some
+pub wants_none : (n : ℕ) → None ≡ wants_of n → n ≡ 0
+wants_none zero e = refl
+wants_none (suc n) e = search (rules, tests, e)
+
+pub wants_some : (n w : ℕ) → Some w ≡ wants_of n → (n ≡ w) × (1 ≤ w)
+wants_some zero w e = search (rules, tests, e)
+wants_some (suc n) w e = search (rules, tests, arith, e)
+
+-- its own fields, or another number of them
+pub as_many : (w g : ℕ) → 1 ≤ w → g ≡ w → is_asked w g ≡ true
+as_many w g h e = rw (ne_eqb w 0 (λ z. omega arith), eq-eqb g w e) refl
+
+pub not_as_many : (w g : ℕ) → 1 ≤ w → (g ≡ w → ⊥) → is_asked w g ≡ false
+not_as_many w g h e = rw (ne_eqb w 0 (λ z. omega arith), ne_eqb g w e) refl
 
 -- the word is what stands before the first space
 pub of_word : (q : List ℕ) (end n : ℕ) → end ≡ length (until 32 q) → n ≡ wanted (take end q) → n ≡ wanted (until 32 q)

@@ -7,16 +7,15 @@ use native.Mathlib.Omega.{arith}
 use native.Mathlib.Numerals.{add-one}
 use lib.ListN.{length, get_or, take, length-append}
 use borrow.Author.Tests.{le-ltb}
+use Rattle.std.proofs.Common.{Result, Ok, Err}
 use Rattle.text.specs.Text.{decimal, no, field_in, text_in, end_in, over, Put}
 use Rattle.text.proofs.Figures.{figures-length}
 use Rattle.text.proofs.Writing.{put_as, put_two, put-size, put-over, text-put, field_put, end-put, field-behind}
 use Rattle.model.specs.Reply.{Reply, gives, refuses}
 use Rattle.model.specs.Rows.{row}
-use Rattle.shares.specs.declared.answers.Refusal.{Refusal}
 use Rattle.queries.specs.Text.{Written, line_of as replyLine}
 use Rattle.sheets.specs.Sheet.{line_of, written}
-use Rattle.sheets.specs.declared.answers.Writing.{Writing}
-use Rattle.sheets.specs.declared.answers.Writing.TheVariants.{Put as Wrote, No as NoRoom}
+use Rattle.sheets.specs.declared.answers.NoRoom.{NoRoom}
 use Rattle.sheets.specs.Paper.{paper_writing, write_reply, written_in}
 use Rattle.sales.specs.Sales.{task_fields}
 
@@ -85,15 +84,15 @@ module _ (text area : List ℕ) (fits : length text ≤ length area) where
   unfolding written_in
   is-over = ap (λ (t : Bool). cond t area (over text area)) (le-ltb (length area) (length text) fits)
 
-  pub wrote : (w : Writing) (after : List ℕ) (n : ℕ) → paper_writing w ≡ write_reply text area → after ≡ written_in text area → w ≡ Wrote n
+  pub wrote : (w : Result ℕ NoRoom) (after : List ℕ) (n : ℕ) → paper_writing w ≡ write_reply text area → after ≡ written_in text area → w ≡ Ok n
       → Written text area after n
   wrote w after n e f h =
-      let same : suc n ≡ suc (length text) = ap (λ (x : Writing). value_of (paper_writing x)) (sym h) ∙ ap value_of (e ∙ gives_size) in
+      let same : suc n ≡ suc (length text) = ap (λ (x : Result ℕ NoRoom). value_of (paper_writing x)) (sym h) ∙ ap value_of (e ∙ gives_size) in
       record { count = omega (arith, same); whole = f ∙ is-over }
 
-  pub not-refused : (w : Writing) (r : Refusal) → paper_writing w ≡ write_reply text area → w ≡ NoRoom r → ⊥
+  pub not-refused : (w : Result ℕ NoRoom) (r : NoRoom) → paper_writing w ≡ write_reply text area → w ≡ Err r → ⊥
   not-refused w r e h =
-      let same : 0 ≡ suc (length text) = ap (λ (x : Writing). value_of (paper_writing x)) (sym h) ∙ ap value_of (e ∙ gives_size) in
+      let same : 0 ≡ suc (length text) = ap (λ (x : Result ℕ NoRoom). value_of (paper_writing x)) (sym h) ∙ ap value_of (e ∙ gives_size) in
       omega (arith, same)
 
 -- the refusal of a bad line

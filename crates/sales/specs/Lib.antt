@@ -3,3 +3,4 @@
 pub mod Sales
 pub mod Program
 pub mod Meaning
+pub mod Laws

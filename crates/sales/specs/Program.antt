@@ -1,29 +1,29 @@
 -- What the program makes of its reads: it holds every byte that comes, and answers them all where the input has ended or is too long. A run
 -- of it is `Ran program`, as crate `reads` has it for every program. Assumes nothing.
-use Rattle.std.specs.Prelude.{ℕ, cond, ◌||◌, List, eqb, ℤ, pos, negsuc, length}
-use Rattle.reads.specs.declared.Standing.TheVariants.{GoesOn, EndOfInput, ReadFailed, ByteLimit}
+use Rattle.std.specs.Prelude.{ℕ, cond, ◌||◌, List, length, Option, Some, None}
+use Rattle.reads.specs.declared.machine.End.{End}
+use Rattle.reads.specs.declared.machine.End.TheVariants.{ByteLimit}
+use Rattle.reads.specs.Machine.{Run, unserved, Serving, Round, program_of}
 use Rattle.reads.specs.Program.{Program}
 use Rattle.queries.specs.Meaning.{is_long}
-use Rattle.sales.specs.declared.Round.{Round}
+use Rattle.sales.specs.declared.Sale.{Sale}
 use Rattle.sales.specs.Sales.{answer_to}
 
+-- too many bytes are a reason to end
+abbrev pub end_of : List ℕ → Option End
+end_of s = cond (is_long s) (Some ByteLimit) None
+
 -- the end, with the bytes s: their answer is served, and the reason is the byte limit where they are too many
-abbrev pub ended : List ℕ → Round
-ended s = record { held = length s; served = length (answer_to s); standing = cond (is_long s) ByteLimit EndOfInput }
+abbrev pub ended : List ℕ → Run Sale
+ended s = record { machine = record { served = length (answer_to s) }; used = 0; text = answer_to s; end = end_of s }
 
--- more may come
-abbrev pub goes_on : List ℕ → Round
-goes_on s = record { held = length s; served = 0; standing = GoesOn }
+-- what is made of the bytes s, all that came: nothing while more may come
+abbrev pub run_of : Serving Sale
+run_of m offset s last = cond (last || is_long s) (ended s) (unserved m)
 
--- a round with the bytes s, all that came: the read's answer 0 is the end of the input, and one below 0 a read that failed
-abbrev pub round_of : ℕ → List ℕ → ℤ → Round
-round_of held s (pos k) = cond (eqb k 0 || is_long s) (ended s) (goes_on s)
-round_of held s (negsuc k) = record { held = held; served = 0; standing = ReadFailed }
+-- before any answer
+abbrev pub unasked_yet : Sale
+unasked_yet = record { served = 0 }
 
-abbrev pub program : Program Round
-program =
-    record {
-      standing_of = λ r. r.standing;
-      start = record { held = 0; served = 0; standing = GoesOn };
-      after = λ got s before. round_of before.held s got;
-    }
+abbrev pub program : Program (Round Sale)
+program = program_of run_of None unasked_yet

@@ -1,6 +1,6 @@
 -- What `sales` answers to an input (document 02, No. 13, for the people who sell): a question, and the old tool's sheet behind it. The
 -- answers are those of the sizing half to a line with the sheet's tasks. Assumes nothing.
-use Rattle.std.specs.Prelude.{ℕ, suc, min, Bool, cond, not, ◌&&◌, List, [], ◌∷◌, ◌++◌, eqb, length, get_or, drop}
+use Rattle.std.specs.Prelude.{ℕ, zero, suc, Option, None, Some, min, Bool, cond, not, ◌&&◌, List, [], ◌∷◌, ◌++◌, eqb, length, get_or, drop}
 use Rattle.text.specs.Text.{decimal, same}
 use Rattle.model.specs.Reply.{refuses}
 use Rattle.model.specs.Asked.{Work}
@@ -65,6 +65,11 @@ best_word = 98 ∷ 101 ∷ 115 ∷ 116 ∷ []
 -- how many fields a question of this word has, 0 for any other word: check P B, least P, best PMAX
 unfoldable pub wanted : List ℕ → ℕ
 wanted word = cond (same word check_word) 2 (cond (same word least_word) 1 (cond (same word best_word) 1 0))
+
+-- such a number of fields, none for 0
+abbrev pub wants_of : ℕ → Option ℕ
+wants_of zero = None
+wants_of (suc n) = Some (suc n)
 
 -- and how many it has: one behind each space
 abbrev pub given : List ℕ → ℕ

@@ -6,7 +6,6 @@ use native.Mathlib.Omega.{arith}
 use lib.ListN.{take, drop}
 use Rattle.text.proofs.Writing.{put_as}
 use Rattle.queries.specs.Meaning.{line_means}
-use Rattle.sheets.specs.Paper.{work_of}
 use Rattle.sales.specs.Sales.{ordinary, aligned, task_fields, named}
 use Rattle.sales.proofs.Naming.{both_lines, both_put}
 use Rattle.sales.proofs.both_forms.Goals as goal
@@ -16,7 +15,7 @@ use Rattle.sales.proofs.both_forms.Goals.{After-put_line-end}
 abbrev rest : After-put_line-end → List ℕ
 rest l =
     let a = l.args in
-    a.question.now ++ task_fields (work_of a.sheet).periods (work_of a.sheet).costs
+    a.question.now ++ task_fields a.sheet.now.periods a.sheet.now.costs
 
 lines : (l : After-put_line-end)
     → (take (l.put_line-end.result - 8) (drop 8 l.put_line-end.new.line) ≡ rest l)

@@ -26,7 +26,7 @@ behind t =
 pub put_tasks-requires : goal.put_tasks-requires
 put_tasks-requires c =
     let t = (goal.at.put_tasks-requires c).After-put_text-behind in
-    ((start t).requires.0, omega (arith, (start t).requires, (behind t).0.behind, put-size (behind t).0, (behind t).1))
+    omega (arith, (start t).requires, (behind t).0.behind, put-size (behind t).0, (behind t).1)
 
 pub returns : goal.returns
 returns c =

@@ -5,7 +5,6 @@ use mathlib.Core.List.{List}
 use native.Mathlib.Omega.{arith}
 use lib.ListN.{length}
 use lib.Seq.{length-take-le}
-use borrow.Author.Tests.{eqb-true, eqb-false}
 use Rattle.queries.specs.Text.{longest}
 use Rattle.queries.specs.Meaning.{line_means}
 use Rattle.sales.proofs.Naming.{InFront, in_front, none_named, some-named}
@@ -25,11 +24,11 @@ sized a = a.answer-size.auto.out
 front : (a : After-answer-size) → InFront (line_means (start a).args.line.now) (left a) a.answer-size.result
 front a = in_front (line_means (start a).args.line.now) _ (left a) a.answer-size.result (omega arith) a.answer-size.auto.out a.answer-size.ensures
 
-pub returns-then-none : goal.returns-then-none
-returns-then-none c =
-    let a = (goal.at.returns-then-none c).After-answer-size in (
+pub returns-then-size-eq0 : goal.returns-then-size-eq0
+returns-then-size-eq0 c =
+    let a = (goal.at.returns-then-size-eq0 c).After-answer-size in (
       none_named (start a).args.name.now (line_means (start a).args.line.now) (left a) a.answer-size.result (front a) (start a).args.out.now (start a).args.at
-          (eqb-true a.answer-size.result 0 c.if-none.true-raw),
+          c.if-size-eq0.true,
       omega arith,
     )
 
@@ -43,4 +42,4 @@ pub returns : goal.returns
 returns c =
     let a = (goal.at.returns c).After-answer-size in
     some-named (start a).args.name.now (line_means (start a).args.line.now) (left a) a.answer-size.result (front a) (start a).args.out.now (start a).args.at
-    (eqb-false a.answer-size.result 0 c.if-none.false-raw) (start a).requires (sized a) c.put_text-from.ensures c.put_text.ensures
+    c.if-size-eq0.false (start a).requires (sized a) c.put_text-from.ensures c.put_text.ensures

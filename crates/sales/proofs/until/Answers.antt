@@ -1,12 +1,12 @@
--- `line_end` is the library's search. Assumes nothing.
+-- `until` is the library's search. Assumes nothing.
 use Rattle.std.proofs.Common.{◌∙◌, rules, tests, eqb}
 use Rattle.std.proofs.lemmas.Iterator.{YieldsList-from_slice}
 use Rattle.std.proofs.lemmas.Iterator.Search.{position_from_yields_List}
 use Rattle.queries.proofs.Pieces.{found}
-use Rattle.sales.proofs.line_end.Goals as goal
+use Rattle.sales.proofs.until.Goals as goal
 
 pub returns : goal.returns
 returns c =
     c.unwrap_or.ensures
-    ∙ found 10 c.args.input.now _ (position_from_yields_List (λ y. eqb y 10) _ _ c.position.result c.position.ensures.ran
+    ∙ found c.args.byte c.args.bytes.now _ (position_from_yields_List (λ y. eqb y c.args.byte) _ _ c.position.result c.position.ensures.ran
     (YieldsList-from_slice _ c.iter.ensures.rest) (λ x b q k. search (rules, tests)))
