@@ -7,10 +7,11 @@ use mathlib.Core.List.{List, [], ◌∷◌, ◌++◌, map}
 use mathlib.Core.Option.{Option, none, some}
 use native.Mathlib.Omega.{arith}
 use lib.Dec.{ltb, eqb}
-use lib.ListN.{length}
-use borrow.Author.Tests.{eqb-true, eq-eqb, lt-ltb}
+use borrow.Author.Tests.{eqb-true, eq-eqb}
+use Rattle.std.specs.Prelude.{Some, None}
 use Rattle.units.specs.Units.{moment, amount}
 use Rattle.units.specs.declared.Moment.{Moment}
+use Rattle.units.specs.declared.Amount.{Amount}
 use Rattle.rules.specs.Lists.{keep, All}
 use Rattle.rules.specs.Vcpu.{Description, more_urgent, named, times, comes}
 use Rattle.rules.specs.Vcpu.{Vcpu as Tenant}
@@ -24,11 +25,12 @@ use Rattle.turns.specs.declared.Kind.{Kind}
 use Rattle.turns.specs.declared.Kind.TheVariants.{Sporadic, Deferrable, Polling}
 use Rattle.turns.specs.declared.Vcpu.{Vcpu}
 use Rattle.turns.specs.declared.Pick.{Pick}
-use Rattle.turns.specs.Written.{never, idle, boundary_at, written, place, timer_of}
+use Rattle.turns.specs.Written.{never, boundary_at, written, place, timer_of}
 use Rattle.turns.proofs.Invariant.{Ranked, Distinct, terms_of}
-use Rattle.turns.specs.Steps.{head_of, boundary_in, picked_of, picks, ready_of}
-use Rattle.turns.proofs.Written.{Formed, boundary-written}
+use Rattle.turns.specs.Steps.{head_of, boundary_in}
+use Rattle.turns.proofs.Written.{boundary-written}
 use Rattle.turns.proofs.Return.{first, head-written}
+use Rattle.turns.specs.Tenants.{picked_of, picks, ready_of, Formed}
 
 -- a time more, or none, before some times; none of them above the time above all
 early_times : (o : Option ℕ) (ts : List ℕ) → timer_of o ≤ never → timer_of (earliest ts) ≤ never
@@ -119,20 +121,23 @@ none_before v [] h = refl
 none_before v (w ∷ ws) h = rw (asymmetric v.terms w.terms h.0, and_right w.runnable) (none_before v ws h.1)
 
 abbrev pub idle_with : ℕ → Pick
-idle_with s = record { at = idle; usable = amount 0; soon = moment s }
+idle_with s = record { at = None; usable = amount 0; soon = moment s }
 
-found-stays : (k : Pick) (j : ℕ) (l : List Vcpu) (ts : List Moment) → ltb k.at idle ≡ true → picks k j l ts ≡ k
+abbrev found_at : ℕ → Amount → Moment → Pick
+found_at i u s = record { at = Some i; usable = u; soon = s }
+
+found-stays : (i : ℕ) (u : Amount) (s : Moment) (j : ℕ) (l : List Vcpu) (ts : List Moment) → picks (found_at i u s) j l ts ≡ found_at i u s
 unfolding picked_of
-found-stays k j [] ts e = refl
-found-stays k j (v ∷ l) [] e = refl
-found-stays k j (v ∷ l) (t ∷ ts) e = rw e (found-stays k (suc j) l ts e)
+found-stays i u s j [] ts = refl
+found-stays i u s j (v ∷ l) [] = refl
+found-stays i u s j (v ∷ l) (t ∷ ts) = found-stays i u s (suc j) l ts
 
 -- what the scan of a ranked list from place j on finds, s being the next time that something comes to those before it
 abbrev pub pick_for : ℕ → ℕ → List Tenant → Option Tenant → Pick
 pick_for s j vs none = idle_with (min s (timer_of (earliest (nexts (keep runnable vs)))))
 pick_for s j vs (some v) =
     record {
-      at = j + place v.terms.tunnel vs;
+      at = Some (j + place v.terms.tunnel vs);
       usable = amount v.usable;
       soon = moment (min s (timer_of (earliest (times v.boundary ++ nexts (keep (above v) vs)))));
     }
@@ -160,7 +165,7 @@ Heard T v = v.runnable ≡ true → T v ≡ moment (head_of (written v))
 module _ (T : Tenant → Moment) (s j : ℕ) (v : Tenant) (c : Calm v) (h : Heard T v) where
   step-ready : ready v ≡ true
       → picked_of (idle_with s) j (written v) (T v)
-      ≡ record { at = j; usable = amount v.usable; soon = moment (min s (timer_of v.boundary)) }
+      ≡ record { at = Some j; usable = amount v.usable; soon = moment (min s (timer_of v.boundary)) }
   unfolding picked_of
   step-ready e =
       rw (ready-written v ∙ e, h (and-true v.runnable (ltb 0 v.usable) e).0, own_written v c, usable-written v)
@@ -208,17 +213,17 @@ module _ (s j : ℕ) (v : Tenant) (vs : List Tenant) (calm : All Calm (v ∷ vs)
       placed-later false f = omega arith
 
       same : (k : ℕ) {m n : ℕ} → suc j + place u.terms.tunnel vs ≡ k → m ≡ n
-          → ◌≡◌ {A = Pick} (record { at = suc j + place u.terms.tunnel vs; usable = amount u.usable; soon = moment m })
-          (record { at = k; usable = amount u.usable; soon = moment n })
+          → ◌≡◌ {A = Pick} (record { at = Some (suc j + place u.terms.tunnel vs); usable = amount u.usable; soon = moment m })
+          (record { at = Some k; usable = amount u.usable; soon = moment n })
       same k p q = rw (p, q)
 
-pub scan : (T : Tenant → Moment) (s j : ℕ) (vs : List Tenant) → s ≤ never → j + length vs ≤ idle → All Calm vs → All (Heard T) vs
+pub scan : (T : Tenant → Moment) (s j : ℕ) (vs : List Tenant) → s ≤ never → All Calm vs → All (Heard T) vs
     → Ranked (terms_of vs) → Distinct (terms_of vs)
     → picks (idle_with s) j (map written vs) (map T vs) ≡ pick_for s j vs (choose vs)
-scan T s j [] l h calm heard ranked distinct = ap idle_with (omega arith)
-scan T s j (v ∷ vs) l h calm heard ranked distinct =
+scan T s j [] l calm heard ranked distinct = ap idle_with (omega arith)
+scan T s j (v ∷ vs) l calm heard ranked distinct =
     go (ready v) refl
-    (scan T (min s (waits v)) (suc j) vs (omega arith) (omega arith) calm.1 heard.1 ranked.1 distinct.1)
+    (scan T (min s (waits v)) (suc j) vs (omega arith) calm.1 heard.1 ranked.1 distinct.1)
   where
     first-named : eqb v.terms.tunnel v.terms.tunnel ≡ true
     first-named = eq-eqb v.terms.tunnel v.terms.tunnel refl
@@ -229,11 +234,11 @@ scan T s j (v ∷ vs) l h calm heard ranked distinct =
     alone : timer_of (earliest (times v.boundary ++ nexts [])) ≡ timer_of v.boundary
     alone = omega (arith, early_times v.boundary [] (own_most v calm.0) (omega arith), own_most v calm.0)
 
-    found : record { at = j; usable = amount v.usable; soon = moment (min s (timer_of v.boundary)) } ≡ pick_for s j (v ∷ vs) (some v)
+    found : record { at = Some j; usable = amount v.usable; soon = moment (min s (timer_of v.boundary)) } ≡ pick_for s j (v ∷ vs) (some v)
     found = rw (first-named, none_at_all) (same (omega arith) (omega (arith, alone)))
       where
-        same : {a b m n : ℕ} → a ≡ b → m ≡ n → ◌≡◌ {A = Pick} (record { at = a; usable = amount v.usable; soon = moment m })
-            (record { at = b; usable = amount v.usable; soon = moment n })
+        same : {a b m n : ℕ} → a ≡ b → m ≡ n → ◌≡◌ {A = Pick} (record { at = Some a; usable = amount v.usable; soon = moment m })
+            (record { at = Some b; usable = amount v.usable; soon = moment n })
         same p q = rw (p, q)
 
     go : (b : Bool) → ready v ≡ b
@@ -242,8 +247,7 @@ scan T s j (v ∷ vs) l h calm heard ranked distinct =
         ≡ pick_for s j (v ∷ vs) (most_urgent (cond b (v ∷ keep ready vs) (keep ready vs)))
     go true e rec =
         ap (λ (k : Pick). picks k (suc j) (map written vs) (map T vs)) (step-ready T s j v calm.0 heard.0 e)
-        ∙ found-stays (record { at = j; usable = amount v.usable; soon = moment (min s (timer_of v.boundary)) }) (suc j)
-        (map written vs) (map T vs) (lt-ltb j idle (omega arith))
+        ∙ found-stays j (amount v.usable) (moment (min s (timer_of v.boundary))) (suc j) (map written vs) (map T vs)
         ∙ found
         ∙ ap (λ (w : Tenant). pick_for s j (v ∷ vs) (some w)) (sym (first-chosen v vs ranked.0))
     go false e rec =

@@ -28,7 +28,7 @@ use Rattle.turns.specs.Written.{never, timer_of}
 use Rattle.turns.proofs.Laid.{laid-map}
 use Rattle.turns.proofs.Choose.{next-head}
 use Rattle.turns.proofs.Settle.{calm-one}
-use Rattle.turns.proofs.Sweep.{head_then}
+use Rattle.turns.specs.Tenants.{head_then}
 
 -- the time reported of a tenant, or the time above all
 abbrev pub said_of : List Told → Tenant → Moment

@@ -15,7 +15,7 @@ use Rattle.rules.specs.Card.{Card}
 use Rattle.rules.specs.Turn.{Call}
 use Rattle.rules.specs.History.{after, heard, past}
 use Rattle.rules.specs.Stays.{stays}
-use Rattle.rules.specs.Meaning.{InRange, Meaning, pending_ticks}
+use Rattle.rules.specs.Meaning.{Meaning}
 use Rattle.rules.specs.Accounts.{all_held}
 use Rattle.rules.proofs.Lists.{among_all, sum_among}
 use Rattle.rules.proofs.Accounts.{totals}
@@ -24,9 +24,9 @@ use Rattle.rules.proofs.ThreeKinds.{by_kind}
 use Rattle.rules.proofs.Sound.{Orderly, Sound}
 use Rattle.rules.proofs.Reached.{Reached, reached}
 use Rattle.rules.proofs.Meaning.{meaning}
-use Rattle.turns.specs.declared.Core.{Core}
+use Rattle.turns.specs.declared.Core.TheInside.{Inside}
 use Rattle.turns.specs.Written.{card, core_of}
-use Rattle.turns.proofs.Written.{Formed, queue, refills, Shows}
+use Rattle.turns.specs.Tenants.{Formed, Fits, queue, refills}
 
 -- each is more urgent than all behind it
 abbrev pub Ranked : List Description → Type 0
@@ -41,7 +41,7 @@ Distinct (d ∷ l) = All (λ e. e.tunnel ≡ d.tunnel → ⊥) l × Distinct l
 abbrev pub terms_of : List Tenant → List Description
 terms_of vs = map (λ v. v.terms) vs
 
-pub record SoundCore (c : Core) : Type 0 where
+pub record SoundCore (c : Inside) : Type 0 where
   pub written : c ≡ core_of (card c)
   pub calls : List Call
   pub shows : card c ≡ after calls
@@ -58,14 +58,6 @@ pub record Between (last : ℕ) (vs : List Tenant) : Type 0 where
 pub record Listed (vs : List Tenant) : Type 0 where
   pub few : length vs ≤ most_vcpus
   pub distinct : Distinct (terms_of vs)
-
--- a tenant whose numbers fit its record
-pub record Fits (v : Tenant) : Type 0 where
-  pub range : InRange v.terms
-  pub most : v.usable + pending_ticks v ≤ v.terms.capacity
-  pub adds : v.pending_total ≡ pending_ticks v
-  pub shows : Shows v
-  pub polls : v.terms.kind ≡ 2 → v.runnable ≡ false → v.usable ≡ 0
 
 pub orderly-formed : (low high now : ℕ) (v : Tenant) → Orderly low high now v → Formed v
 orderly-formed low high now v k =
@@ -106,7 +98,7 @@ between-at k calls e r =
     reach : Reached k (stays (heard calls)) (past (heard calls))
     reach = subst (λ (x : Card). Reached x (stays (heard calls)) (past (heard calls))) (sym e) (reached calls)
 
-module _ (c : Core) (r : SoundCore c) where
+module _ (c : Inside) (r : SoundCore c) where
   pub between : Between (card c).last (card c).vcpus
   between = between-at (card c) r.calls r.shows r.ranked
 

@@ -1,7 +1,7 @@
 -- A list laid into an array: reading and writing a place, one more at the end, one put in, one taken out, the first ones taken out, the
 -- front, a front laid anew, and each one changed.
 -- Assumes nothing.
-use Prim.Native.Nat.{ℕ, zero, suc, ◌≤◌, ◌<◌}
+use Prim.Native.Nat.{ℕ, zero, suc, ◌+◌, ◌≤◌, ◌<◌}
 use mathlib.Core.Path.{◌≡◌, refl, ap, sym, ◌∙◌}
 use mathlib.Core.List.{List, [], ◌∷◌, ◌++◌, map, append_assoc, append-nil}
 use native.Mathlib.Omega.{arith}
@@ -137,3 +137,14 @@ unfolding laid
 laid-map f g h z zero l e = refl
 laid-map f g h z (suc k) [] e = ap (λ r. z ∷ r) (laid-map f g h z k [] e)
 laid-map f g h z (suc k) (a ∷ l) e = rw (e.0, laid-map f g h z k l e.1)
+
+-- behind the elements it holds the filler
+pub laid-blank : {A B : Type 0} (f : A → B) (z : B) (k m : ℕ) (l : List A) → k ≡ length l + m
+    → drop (length l) (laid k f z l) ≡ replicate m z
+unfolding laid
+laid-blank f z zero m (a ∷ l) h = absurd (omega arith)
+laid-blank f z (suc k) m (a ∷ l) h = laid-blank f z k m l (omega arith)
+laid-blank f z zero zero [] h = refl
+laid-blank f z zero (suc m) [] h = absurd (omega arith)
+laid-blank f z (suc k) zero [] h = absurd (omega arith)
+laid-blank f z (suc k) (suc m) [] h = ap (λ r. z ∷ r) (laid-blank f z k m [] (omega arith))

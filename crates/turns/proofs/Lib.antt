@@ -21,5 +21,7 @@ pub mod Questions
 pub mod Least
 pub mod Paper
 pub mod Made
+pub mod Turning
+pub mod Posted
 pub mod Promised
 pub mod OneReply

@@ -1,6 +1,6 @@
--- The theorem that ties the code to the rules: the cores that the empty one and the calls make, each call by the function that the
--- contracts cite, show exactly the cards that the rules make of the same calls, and are what those cards are written as. So whatever
--- is proved of the rules' cards holds of every core that a host can hold. Assumes nothing.
+-- The theorem that ties the code to the rules: the card that the empty one and the calls make, each call by the function that the
+-- contracts cite, is exactly the card that the rules make of the same calls; and a core is what its card is written as. So whatever is
+-- proved of the rules' cards holds of every core that a host can hold. Assumes nothing.
 use Prim.Native.Nat.{◌≤◌}
 use mathlib.Core.Path.{◌≡◌, refl, ap, sym, ◌∙◌, subst}
 use mathlib.Core.List.{List, [], ◌∷◌}
@@ -8,107 +8,114 @@ use mathlib.Core.Option.{Option, none, some}
 use native.Mathlib.Omega.{arith}
 use lib.ListN.{length}
 use Rattle.units.specs.declared.Moment.{Moment}
-use Rattle.rules.specs.Card.{Card, empty}
+use Rattle.rules.specs.Card.{Card}
 use Rattle.rules.specs.Refuse.{refusal}
 use Rattle.rules.specs.Refuse.{Refusal as Row}
-use Rattle.rules.specs.Turn.{turn, answered, accepted, settled, after_change, remembered_then}
+use Rattle.rules.specs.Turn.{Call, turn, answered, accepted, settled, after_change, remembered_then}
 use Rattle.rules.specs.Meaning.{Meaning}
 use Rattle.rules.proofs.Accepted.{Passed, passed}
 use Rattle.rules.proofs.Reached.{card-accepted}
 use Rattle.rules.proofs.Meaning.{meaning}
 use Rattle.rules.specs.History.{after}
-use Rattle.turns.specs.declared.Core.{Core}
+use Rattle.turns.specs.declared.Core.TheInside.{Inside}
 use Rattle.turns.specs.declared.Change.{Change}
 use Rattle.turns.specs.Written.{card, core_of}
-use Rattle.turns.proofs.Invariant.{SoundCore, Between, between-at}
-use Rattle.turns.specs.Calls.{asked, call_of, turned, paper_reply}
-use Rattle.turns.specs.State.{Asking, made, calls_of, ValidCore}
-use Rattle.turns.specs.declared.Answer.{Answer}
+use Rattle.turns.proofs.Invariant.{SoundCore, Between, Ranked, terms_of, between-at}
+use Rattle.turns.specs.Calls.{asked, call_of, turned}
+use Rattle.turns.specs.State.{Asking, made, calls_of, IsCore}
 use Rattle.turns.proofs.Shape.{change-ranked}
-use Rattle.turns.proofs.Settle.{shown-again, core-sound, empty-shown, empty-sound}
-use Rattle.turns.proofs.Paper.{paper-said}
+use Rattle.turns.proofs.Settle.{shown-again, empty-shown}
+
+-- the card that calls make is the rules' card after the same calls
+pub made_so : (l : List Asking) → made l ≡ after (calls_of l)
+unfolding turned
+made_so [] = refl
+made_so (a ∷ l) = ap (λ (c : Card). (turn c (call_of a.now a.change)).card) (made_so l)
+
+-- a card and the calls that made it
+pub record MadeBy (k : Card) : Type 0 where
+  pub calls : List Call
+  pub shows : k ≡ after calls
+  pub ranked : Ranked (terms_of k.vcpus)
 
 -- an accepted call: the tenants handed back are those of the rules' card after one call more
-module _ (c : Core) (r : SoundCore c) (now : Moment) (change : Change) (e : refusal (card c) now.0 (asked change) ≡ none) where
-  meets : Passed (card c) now.0 (asked change)
-  meets = passed (card c) now.0 (asked change) e
+module _ (k : Card) (r : MadeBy k) (now : Moment) (change : Change) (e : refusal k now.0 (asked change) ≡ none) where
+  meets : Passed k now.0 (asked change)
+  meets = passed k now.0 (asked change) e
 
-  next-card : accepted (card c) (call_of now change) ≡ after (call_of now change ∷ r.calls)
-  next-card = sym (card-accepted (card c) (call_of now change) e) ∙ ap (λ (k : Card). (turn k (call_of now change)).card) r.shows
+  next-card : accepted k (call_of now change) ≡ after (call_of now change ∷ r.calls)
+  next-card = sym (card-accepted k (call_of now change) e) ∙ ap (λ (c : Card). (turn c (call_of now change)).card) r.shows
 
-  pub next-between : Between now.0 (after_change (card c) (call_of now change))
+  pub next-between : Between now.0 (after_change k (call_of now change))
   unfolding settled
   next-between =
-      between-at (accepted (card c) (call_of now change)) (call_of now change ∷ r.calls) next-card
-      (change-ranked (card c) now.0 change meets.asked_for r.ranked)
+      between-at (accepted k (call_of now change)) (call_of now change ∷ r.calls) next-card
+      (change-ranked k now.0 change meets.asked_for r.ranked)
 
   -- and few are remembered then
-  pub next-few : length (remembered_then (card c) (call_of now change)) ≤ 32
+  pub next-few : length (remembered_then k (call_of now change)) ≤ 32
   unfolding settled
   next-few =
-      let m : Meaning (accepted (card c) (call_of now change)) = subst Meaning (sym next-card) (meaning (call_of now change ∷ r.calls)) in
+      let m : Meaning (accepted k (call_of now change)) = subst Meaning (sym next-card) (meaning (call_of now change ∷ r.calls)) in
       omega (arith, m.few-together)
 
--- one call: the core handed back is sound, and shows the card that the rules hand back
-pub record OneCall (c : Core) (now : Moment) (change : Change) : Type 0 where
-  pub sound : SoundCore (turned c now change).core
-  pub shows : card (turned c now change).core ≡ (turn (card c) (call_of now change)).card
-
-pub one-call : (c : Core) → SoundCore c → (now : Moment) (change : Change) → OneCall c now change
-unfolding turned turn
-one-call c r now change =
-    record {
-      sound = sound (refusal (card c) now.0 (asked change)) refl;
-      shows = shows (refusal (card c) now.0 (asked change)) refl;
-    }
+-- one call more, and any number
+one-call : (k : Card) → MadeBy k → (now : Moment) (change : Change) → MadeBy (turn k (call_of now change)).card
+unfolding turn settled
+one-call k r now change = go (refusal k now.0 (asked change)) refl
   where
-    sound : (o : Option Row) → refusal (card c) now.0 (asked change) ≡ o
-        → SoundCore (core_of (answered (card c) (call_of now change) o).card)
-    sound none e = core-sound now.0 (after_change (card c) (call_of now change)) (meets c r now change e).not-above
-        (next-between c r now change e) (remembered_then (card c) (call_of now change)) _ _ (next-few c r now change e)
-        (call_of now change ∷ r.calls) (next-card c r now change e)
-    sound (some x) e = subst SoundCore r.written r
+    go : (o : Option Row) → refusal k now.0 (asked change) ≡ o → MadeBy (answered k (call_of now change) o).card
+    go none e =
+        record {
+          calls = call_of now change ∷ r.calls;
+          shows = next-card k r now change e;
+          ranked = (next-between k r now change e).ranked;
+        }
+    go (some x) e = r
 
-    shows : (o : Option Row) → refusal (card c) now.0 (asked change) ≡ o
-        → card (core_of (answered (card c) (call_of now change) o).card) ≡
-        (answered (card c) (call_of now change) o).card
-    shows none e = shown-again now.0 (after_change (card c) (call_of now change)) (meets c r now change e).not-above
-        (next-between c r now change e) (remembered_then (card c) (call_of now change)) _ _ (next-few c r now change e)
-    shows (some x) e = ap card (sym r.written)
+pub made-by : (l : List Asking) → MadeBy (made l)
+unfolding turned
+made-by [] = record { calls = []; shows = refl; ranked = tt }
+made-by (a ∷ l) = one-call (made l) (made-by l) a.now a.change
 
-pub record MadeSo (l : List Asking) : Type 0 where
-  pub sound : SoundCore (made l)
-  pub shows : card (made l) ≡ after (calls_of l)
-
-pub made_so : (l : List Asking) → MadeSo l
-made_so [] = record { sound = empty-sound; shows = empty-shown }
-made_so (a ∷ l) =
-    let m : MadeSo l = made_so l in
-    let k : OneCall (made l) a.now a.change = one-call (made l) m.sound a.now a.change in
-    record {
-      sound = k.sound;
-      shows = k.shows ∙ ap (λ (c : Card). (turn c (call_of a.now a.change)).card) m.shows;
-    }
+pub of-made : (k : Card) (l : List Asking) → k ≡ made l → MadeBy k
+of-made k l e = subst MadeBy (sym e) (made-by l)
 
 -- what every core in a contract is known to be
-pub sound : (c : Core) → ValidCore c → SoundCore c
-sound c v = subst SoundCore (sym v.made_by) (made_so v.calls).sound
+pub sound : (c : Inside) → IsCore c → SoundCore c
+sound c v =
+    let m : MadeBy (card c) = of-made (card c) v.calls v.made_by in
+    record { written = v.written; calls = m.calls; shows = m.shows; ranked = m.ranked }
 
--- the empty core, and one call more
-pub first : (c : Core) → c ≡ core_of empty → (c ≡ core_of empty) × ValidCore c
-first c e = (e, record { calls = []; made_by = e })
+-- a card that calls make is shown again by the core that it is written as
+shown-after : (k : Card) (r : MadeBy k) (now : Moment) (change : Change)
+    → card (core_of k) ≡ k → card (core_of (turn k (call_of now change)).card) ≡ (turn k (call_of now change)).card
+unfolding turn
+shown-after k r now change s = go (refusal k now.0 (asked change)) refl
+  where
+    go : (o : Option Row) → refusal k now.0 (asked change) ≡ o
+        → card (core_of (answered k (call_of now change) o).card) ≡ (answered k (call_of now change) o).card
+    go none e = shown-again now.0 (after_change k (call_of now change)) (meets k r now change e).not-above
+        (next-between k r now change e) (remembered_then k (call_of now change)) _ _ (next-few k r now change e)
+    go (some x) e = s
 
-pub one_more : (c : Core) (now : Moment) (change : Change) → ValidCore c → (a : Answer) → a ≡ turned c now change
-    → (paper_reply a.reply ≡ (turn (card c) (call_of now change)).reply)
-    × ((a.core ≡ core_of (turn (card c) (call_of now change)).card) × ValidCore a.core)
+pub made-shown : (l : List Asking) → card (core_of (made l)) ≡ made l
 unfolding turned
-one_more c now change v a e = (
-  ap (λ (x : Answer). paper_reply x.reply) e ∙ paper-said (turn (card c) (call_of now change)).reply,
-  (
-    ap (λ (x : Answer). x.core) e,
-    record {
-      calls = record { now = now; change = change } ∷ v.calls;
-      made_by = ap (λ (x : Answer). x.core) e ∙ ap (λ (d : Core). (turned d now change).core) v.made_by;
-    },
-  ),
-)
+made-shown [] = empty-shown
+made-shown (a ∷ l) = shown-after (made l) (made-by l) a.now a.change (made-shown l)
+
+-- the core that is written is one
+pub core-written : (d : Inside) (k : Card) (l : List Asking) → k ≡ made l → d ≡ core_of k → (card d ≡ k) × IsCore d
+core-written d k l e w =
+    let s : card (core_of k) ≡ k = subst (λ (x : Card). card (core_of x) ≡ x) (sym e) (made-shown l) in
+    let t : card d ≡ k = ap card w ∙ s in
+    (t, record { written = w ∙ ap core_of (sym t); calls = l; made_by = t ∙ e })
+
+-- one call more on a core, which leaves its fields as the rules' card is written
+pub one_more : (c : Inside) → IsCore c → (now : Moment) (change : Change) (d : Inside)
+    → d ≡ core_of (turn (card c) (call_of now change)).card
+    → (card d ≡ (turn (card c) (call_of now change)).card) × IsCore d
+unfolding turned
+one_more c v now change d w =
+    core-written d (turn (card c) (call_of now change)).card (record { now = now; change = change } ∷ v.calls)
+    (ap (λ (k : Card). (turn k (call_of now change)).card) v.made_by) w

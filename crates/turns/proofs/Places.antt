@@ -144,3 +144,14 @@ unfolding laid written
 spot_laid a y z k [] l = refl
 spot_laid a y z zero (v ∷ vs) l = absurd (omega arith)
 spot_laid a y z (suc k) (v ∷ vs) l = rw (terms-urgent a.terms v.terms, spot_laid a y z k vs (omega arith))
+
+-- a newcomer's place is one of the first n, or the one behind them
+pub spot_within : (d : Terms) (n : ℕ) (vs : List Vcpu) (ts : List Tunnel) → spot_in d n vs ts ≤ n
+spot_within d zero vs ts = omega arith
+spot_within d (suc n) [] ts = omega arith
+spot_within d (suc n) (v ∷ vs) [] = omega arith
+spot_within d (suc n) (v ∷ vs) (t ∷ ts) = go (more_urgent d (urgency v.priority t.0)) (spot_within d n vs ts)
+  where
+    go : (b : Bool) → spot_in d n vs ts ≤ n → cond b 0 (suc (spot_in d n vs ts)) ≤ suc n
+    go true h = omega arith
+    go false h = omega (arith, h)

@@ -1,5 +1,5 @@
--- Whatever calls a host made, all that specs/Promised says holds of its core and of the answer to one call more; and so of every core
--- in a contract, and of every answer that the contract of a call allows. Assumes nothing.
+-- Whatever calls a host made, all that specs/Promised says holds of its core and of the answer to one call more; and so of every core,
+-- whose type says that calls made it, and of every answer that the contract of a call allows. Assumes nothing.
 use Prim.Native.Nat.{ℕ}
 use mathlib.Core.Path.{◌≡◌, refl, ap, sym, ◌∙◌, subst}
 use mathlib.Core.List.{List, [], ◌∷◌, map}
@@ -34,19 +34,18 @@ use Rattle.rules.proofs.Brought.{brings}
 use Rattle.rules.proofs.Meaning.{meaning}
 use Rattle.rules.proofs.Demand3.{demand3}
 use Rattle.rules.proofs.Reached.{card-accepted, reply-accepted, reply-refused}
+use Rattle.std.specs.Prelude.{Result, Ok, Err}
 use Rattle.turns.specs.declared.Change.{Change}
 use Rattle.turns.specs.declared.Change.TheVariants.{Remove}
-use Rattle.turns.specs.declared.Core.{Core}
+use Rattle.turns.specs.declared.Refusal.{Refusal}
 use Rattle.turns.specs.declared.Report.{Report}
-use Rattle.turns.specs.declared.Reply.{Reply}
-use Rattle.turns.specs.declared.Reply.TheVariants.{Done, No}
 use Rattle.turns.specs.declared.Answer.{Answer}
-use Rattle.turns.specs.Written.{card, core_of}
-use Rattle.turns.specs.Calls.{asked, call_of, paper_reply, reply_said, report_said, turned}
-use Rattle.turns.specs.State.{Asking, made, calls_of, ValidCore}
+use Rattle.turns.specs.Written.{core_of}
+use Rattle.turns.specs.Calls.{asked, call_of, number_of, detail_of, paper_refusal, paper_reply, reply_said, report_said, turned}
+use Rattle.turns.specs.State.{Asking, made, calls_of}
 use Rattle.turns.specs.Promised.{Called, none_yet, one_more, exchanges, Next, Promised}
-use Rattle.turns.proofs.Paper.{paper-said, said-paper, whole-answer}
-use Rattle.turns.proofs.Made.{one-call, made_so}
+use Rattle.turns.proofs.Paper.{paper-said, said-paper, report-paper, whole-answer}
+use Rattle.turns.proofs.Made.{core-written, made-shown, made_so}
 
 -- one call more
 module _ (calls : List Asking) (now : Moment) (change : Change) where
@@ -54,86 +53,83 @@ module _ (calls : List Asking) (now : Moment) (change : Change) where
   call = call_of now change
 
   abbrev old : Card
-  old = card (made calls)
+  old = made calls
 
   abbrev answer : Answer
   answer = turned (made calls) now change
 
   table : Table old call
-  table = subst (λ (k : Card). Table k call) (sym (made_so calls).shows) (table-after (calls_of calls) call)
+  table = subst (λ (k : Card). Table k call) (sym (made_so calls)) (table-after (calls_of calls) call)
 
   -- the reply's number and values are the rules'
   paper : paper_reply answer.reply ≡ (turn old call).reply
   unfolding turned
-  paper = paper-said (turn old call).reply
+  paper = paper-said old call
 
-  replied : (r : Reply) → (turn old call).reply ≡ paper_reply r → answer.reply ≡ r
+  replied : (r : Result Report Refusal) → (turn old call).reply ≡ paper_reply r → answer.reply ≡ r
   replied r e = sym (said-paper answer.reply) ∙ ap reply_said (paper ∙ e) ∙ said-paper r
 
   -- an accepted reply is the report after the five steps
-  reported : (r : Report) → answer.reply ≡ Done r → refusal old call.now call.asked ≡ none
+  reported : (r : Report) → answer.reply ≡ Ok r → refusal old call.now call.asked ≡ none
   reported r e = go (refusal old call.now call.asked) refl
     where
       go : (o : Option Row) → refusal old call.now call.asked ≡ o → o ≡ none
       go none f = refl
       go (some x) f =
-          let clash : paper_reply (Done r) ≡ refused x = ap paper_reply (sym e) ∙ paper ∙ reply-refused old call x f in
+          let clash : paper_reply (Ok r) ≡ refused x = ap paper_reply (sym e) ∙ paper ∙ reply-refused old call x f in
           let z : ◌≡◌ {A = ℕ} 0 1 = cc in
           absurd (omega arith)
 
-  told_so : (r : Report) → answer.reply ≡ Done r → (turn old call).reply ≡ ok (reportedBy old call)
+  told_so : (r : Report) → answer.reply ≡ Ok r → (turn old call).reply ≡ ok (reportedBy old call)
   told_so r e = reply-accepted old call (reported r e)
 
   -- and its last number is the rules' total
-  brought_so : (r : Report) → answer.reply ≡ Done r → r.brought.0 ≡ total (told_by old call.now)
+  brought_so : (r : Report) → answer.reply ≡ Ok r → r.brought.0 ≡ total (told_by old call.now)
   brought_so r e = ap last-number (ap paper_reply (sym e) ∙ paper ∙ told_so r e)
     where
       last-number : Said → ℕ
       last-number (ok x) = x.brought
       last-number (refused x) = 0
 
-  no_row : (r : Report) → answer.reply ≡ Done r → NoRow old call
+  no_row : (r : Report) → answer.reply ≡ Ok r → NoRow old call
   no_row r e = table.accepts.0 (told_so r e)
 
-  shown : card answer.core ≡ (turn old call).card
-  shown = (one-call (made calls) (made_so calls).sound now change).shows
+  shown : answer.core ≡ (turn old call).card
+  unfolding turned
+  shown = refl
 
-  -- a fact of the card before and the card after, carried from the rules' cards to those shown
-  carried : (P : Card → Card → Type 0) → P (after (calls_of calls)) (after (call ∷ calls_of calls)) → P old (card answer.core)
-  carried P p = subst (P old) (sym shown) (subst (λ (k : Card). P k (turn k call).card) (sym (made_so calls).shows) p)
+  -- a fact of the card before and the card after, carried from the rules' cards to those that calls make
+  carried : (P : Card → Card → Type 0) → P (after (calls_of calls)) (after (call ∷ calls_of calls)) → P old answer.core
+  carried P p = subst (P old) (sym shown) (subst (λ (k : Card). P k (turn k call).card) (sym (made_so calls)) p)
 
   none_after : NoRow old call → NoRow (after (calls_of calls)) call
-  none_after n = subst (λ (k : Card). NoRow k call) (made_so calls).shows n
+  none_after n = subst (λ (k : Card). NoRow k call) (made_so calls) n
 
   next : Next (made calls) now change answer
-  unfolding turned
   next =
       record {
         refuses = λ x. (
-          λ e. (table.refuses x.number x.detail).0 (sym paper ∙ ap paper_reply e),
-          λ f. replied (No x) ((table.refuses x.number x.detail).1 f),
+          λ e. (table.refuses (number_of x) (detail_of x)).0 (sym paper ∙ ap paper_reply e),
+          λ f. replied (Err x) ((table.refuses (number_of x) (detail_of x)).1 f),
         );
-        hands_back = λ x e.
-            ap core_of (table.hands_back (record { number = x.number; detail = x.detail }) (sym paper ∙ ap paper_reply e))
-            ∙ sym (made_so calls).sound.written;
+        hands_back = λ x e. shown ∙ table.hands_back (paper_refusal x) (sym paper ∙ ap paper_reply e);
         accepts = (
           λ r. no_row r.0 r.1,
           λ n. (
             report_said (reportedBy old call),
-            replied (Done (report_said (reportedBy old call)))
-                (table.accepts.1 n ∙ sym (paper-said (ok (reportedBy old call)))),
+            replied (Ok (report_said (reportedBy old call))) (table.accepts.1 n ∙ sym (report-paper (reportedBy old call))),
           ),
         );
         then = λ r e.
-            let steps : card answer.core ≡ accepted old call = shown ∙ card-accepted old call (reported r e) in
+            let steps : answer.core ≡ accepted old call = shown ∙ card-accepted old call (reported r e) in
             record {
               five_steps = steps;
               reports =
                   paper ∙ told_so r e ∙ ap (λ (k : Card). ok (report (total (told_by old call.now)) k)) (sym steps)
-                  ∙ ap (λ (n : ℕ). ok (report n (card answer.core))) (sym (brought_so r e));
+                  ∙ ap (λ (n : ℕ). ok (report n answer.core)) (sym (brought_so r e));
               brings =
                   subst (Brings old call) (sym (brought_so r e))
-                  (subst (λ (k : Card). Brings k call (total (told_by k call.now))) (sym (made_so calls).shows)
+                  (subst (λ (k : Card). Brings k call (total (told_by k call.now))) (sym (made_so calls))
                   (brings (calls_of calls) call (none_after (no_row r e))));
               at-now = ap (λ (k : Card). k.last) shown ∙ table.at-now (no_row r e);
               budgets = carried (λ k d. Budgets k call d.vcpus) (budgets (calls_of calls) call (none_after (no_row r e)));
@@ -148,7 +144,7 @@ module _ (calls : List Asking) (now : Moment) (change : Change) where
 told : (calls : List Asking) → exchanges calls ≡ heard (calls_of calls)
 told [] = refl
 told (a ∷ calls) =
-    let again = ap (λ (k : Card). (turn k (call_of a.now a.change)).reply) (made_so calls).shows in
+    let again = ap (λ (k : Card). (turn k (call_of a.now a.change)).reply) (made_so calls) in
     same _ _ _ _ (paper calls a.now a.change ∙ again) (told calls)
   where
     same : (r r' : Said) (l l' : List Exchange) → r ≡ r' → l ≡ l'
@@ -158,39 +154,41 @@ told (a ∷ calls) =
 pub promised : (calls : List Asking) → Promised calls
 promised calls =
     record {
-      shows = (made_so calls).shows;
-      is = (made_so calls).sound.written ∙ ap core_of (made_so calls).shows;
-      meaning = subst Meaning (sym (made_so calls).shows) (meaning (calls_of calls));
+      shows = made_so calls;
+      fields = made-shown calls;
+      sound = (core-written (core_of (made calls)) (made calls) calls refl refl).1;
+      is = λ c v e. v.written ∙ ap core_of (e ∙ made_so calls);
+      meaning = subst Meaning (sym (made_so calls)) (meaning (calls_of calls));
       told = told calls;
       demand3 = demand3 (calls_of calls);
       every_vcpu =
-          subst (λ (l : List Exchange). All (ItsStay l) (card (made calls)).vcpus) (sym (told calls))
-          (subst (λ (k : Card). All (ItsStay (heard (calls_of calls))) k.vcpus) (sym (made_so calls).shows)
+          subst (λ (l : List Exchange). All (ItsStay l) (made calls).vcpus) (sym (told calls))
+          (subst (λ (k : Card). All (ItsStay (heard (calls_of calls))) k.vcpus) (sym (made_so calls))
           (demand3 (calls_of calls)).every_vcpu);
       totals = totals (calls_of calls);
       removal = λ now t n. removal (calls_of calls) (call_of now (Remove t)) t.0
-          (subst (λ (k : Card). NoRow k (call_of now (Remove t))) (made_so calls).shows n) refl;
-      no_decision = no_decision (card (made calls));
+          (subst (λ (k : Card). NoRow k (call_of now (Remove t))) (made_so calls) n) refl;
+      no_decision = no_decision (made calls);
       next = next calls;
     }
 
--- of a core in a contract, and of whatever answer the contract of a call allows
-pub next-answer : (c : Core) (v : ValidCore c) (now : Moment) (change : Change) (a : Answer)
-    → paper_reply a.reply ≡ (turn (card c) (call_of now change)).reply
-    → a.core ≡ core_of (turn (card c) (call_of now change)).card
+-- of a core in a contract, which calls made, and of whatever answer the contract of a call allows
+pub next-answer : (calls : List Asking) (c : Card) → c ≡ made calls → (now : Moment) (change : Change) (a : Answer)
+    → paper_reply a.reply ≡ (turn c (call_of now change)).reply
+    → a.core ≡ (turn c (call_of now change)).card
     → Next c now change a
-next-answer c v now change a p q =
+next-answer calls c e now change a p q =
     subst (Next c now change) (sym (whole-answer c now change a p q))
-    (subst (λ (d : Core). Next d now change (turned d now change)) (sym v.made_by) (next v.calls now change))
+    (subst (λ (d : Card). Next d now change (turned d now change)) (sym e) (next calls now change))
 
 -- a host's core is what its own calls make, and its replies are those that demand 3 is told by
-pub called : (calls : List Asking) (replies : List Reply) (c : Core) → Called calls replies c
+pub called : (calls : List Asking) (replies : List (Result Report Refusal)) (c : Card) → Called calls replies c
     → (c ≡ made calls) × (map paper_reply replies ≡ map (λ x. x.reply) (exchanges calls))
 called _ _ c (none_yet _ e) = (e, refl)
 called _ _ _ (one_more calls replies c now change a before p q) =
     let ih = called calls replies c before in
     let e : a ≡ turned (made calls) now change =
-    whole-answer c now change a p q ∙ ap (λ (d : Core). turned d now change) ih.0 in
+    whole-answer c now change a p q ∙ ap (λ (d : Card). turned d now change) ih.0 in
     (ap (λ (x : Answer). x.core) e, cons _ _ _ _ (ap (λ (x : Answer). paper_reply x.reply) e) ih.1)
   where
     cons : (r r' : Said) (l l' : List Said) → r ≡ r' → l ≡ l' → r ∷ l ≡ r' ∷ l'

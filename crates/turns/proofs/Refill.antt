@@ -1,29 +1,25 @@
 -- Boundaries on a written record: the moment that the code steps to by one division is the rules' next boundary, the refill is the
 -- written refill, and a newcomer's record has its first boundary. Assumes nothing.
 use Prim.Native.Nat.{ℕ, ◌+◌, ◌-◌, ◌/◌, ◌≤◌, ◌<◌}
-use mathlib.Core.Path.{◌≡◌, refl, ap, ap₂, sym, ◌∙◌, subst}
-use mathlib.Core.Bool.{Bool, true, false, cond}
+use mathlib.Core.Path.{◌≡◌, ap, sym, ◌∙◌, subst}
+use mathlib.Core.Bool.{false}
 use mathlib.Core.List.{List, [], ◌∷◌}
-use mathlib.Core.Option.{Option, none, some}
+use mathlib.Core.Option.{Option, some}
 use native.Mathlib.Nat.{div-add-mod', mod-lt, add-mul, one-mul}
 use native.Mathlib.Omega.{arith}
-use lib.Dec.{eqb}
-use lib.ListN.{get_or, set}
+use lib.ListN.{get_or}
 use borrow.Author.Tests.{le-leb}
 use Rattle.units.specs.Units.{moment, amount, later}
 use Rattle.units.specs.declared.Moment.{Moment}
 use Rattle.units.specs.declared.Amount.{Amount}
-use Rattle.rules.specs.Vcpu.{Entry, leaves, admitted, times, comes}
+use Rattle.rules.specs.Vcpu.{Entry, leaves}
 use Rattle.rules.specs.Vcpu.{Vcpu as Tenant}
 use Rattle.rules.specs.Return.{boundary_after, refilled, brought_in, returned}
-use Rattle.turns.specs.declared.Description.{Description}
-use Rattle.turns.specs.declared.Kind.{Kind}
 use Rattle.turns.specs.declared.Vcpu.{Vcpu}
 use Rattle.turns.specs.Laid.{laid}
-use Rattle.turns.specs.Written.{never, kind_as, boundary_at, no_tenant, written, shown, timer_of}
-use Rattle.turns.specs.Calls.{described}
-use Rattle.turns.specs.Steps.{has_queue, left_of, owing_as, head_of, until_next, usable_as, refilled_of, bare, Returnable}
-use Rattle.turns.proofs.Written.{kind-left, kind-boundary, boundary-first}
+use Rattle.turns.specs.Written.{never, written, shown}
+use Rattle.turns.specs.Steps.{has_queue, owing_as, head_of, until_next, usable_as, refilled_of, bare, Returnable}
+use Rattle.turns.proofs.Written.{kind-left, boundary-first}
 
 next-boundary : (now T b : ℕ) → 1 ≤ T → b ≤ now → now + T < never
     → later (moment now) (until_next (moment b) (moment now) (amount T)) ≡ moment (boundary_after now T b)
@@ -90,41 +86,3 @@ refills_so w now r n d =
     ap (λ (x : Vcpu). refilled_of x now) r.written
     ∙ refilled_same now.0 (head_of w) (bare w) (r.no-queue n) (boundary-first w.kind (get_or w.due 0 (moment 0)) n) r.period d
     r.time
-
--- a newcomer's record: that of a vacant place, with its terms, other due times, and what is left of C
-abbrev pub newcomer : Description → Vcpu → List Moment → Amount → Kind → Vcpu
-newcomer d v ds u k =
-    record {
-      due = ds;
-      ended = v.ended;
-      held = v.held;
-      amount = v.amount;
-      period = d.period;
-      capacity = d.capacity;
-      usable = u;
-      pending = v.pending;
-      priority = d.priority;
-      runnable = false;
-      count = 0;
-      kind = k;
-    }
-
-module _ (now : Moment) (d : Description) (h : now.0 + d.period.0 ≤ never) where
-  first-due : set (laid 8 moment (moment never) []) 0 (moment (timer_of (boundary_at (kind_as d.kind) (later now d.period))))
-      ≡ laid 8 moment (moment never) (comes (admitted now.0 (described d)))
-  unfolding laid
-  first-due = rw (kind-boundary d.kind (later now d.period)) (go (eqb d.kind 0))
-    where
-      go : (b : Bool) → set (laid 8 moment (moment never) []) 0 (moment (timer_of (cond b none (some (later now d.period).0))))
-          ≡ laid 8 moment (moment never) (times (cond b none (some (now.0 + d.period.0))))
-      go true = refl
-      go false = ap (λ (m : ℕ). moment m ∷ laid 7 moment (moment never) []) (omega arith)
-
-  pub admits_so : newcomer d (written no_tenant)
-      (set (written no_tenant).due 0 (moment (timer_of (boundary_at (kind_as d.kind) (later now d.period)))))
-      (left_of (kind_as d.kind) false d.capacity) (kind_as d.kind)
-      ≡ written (admitted now.0 (described d))
-  unfolding written
-  admits_so =
-      ap₂ (λ (ds : List Moment) (u : Amount). newcomer d (written no_tenant) ds u (kind_as d.kind)) first-due
-      (kind-left (described d) false d.capacity.0)

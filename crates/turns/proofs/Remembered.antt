@@ -1,16 +1,19 @@
 -- Who is remembered, as the code has it: what is written is shown again, a loop looks one slot further or keeps one more, and one that
 -- leaves is remembered with the last time that something would have come to it. Assumes nothing.
 use Prim.Native.Nat.{ℕ, zero, suc, ◌+◌, ◌-◌, ◌≤◌, ◌<◌, max}
-use mathlib.Core.Path.{◌≡◌, refl, ap, sym, ◌∙◌, subst}
-use mathlib.Core.Bool.{Bool, true, false, cond}
+use mathlib.Core.Path.{◌≡◌, refl, ap, sym, ◌∙◌}
+use mathlib.Core.Bool.{Bool, true, false, cond, not}
 use mathlib.Core.List.{List, [], ◌∷◌, ◌++◌, map, append-nil}
-use mathlib.Core.Option.{Option, none, some}
+use mathlib.Core.Option.{none, some}
+use mathlib.Core.Option.{Option as Maybe}
+use Rattle.std.specs.Prelude.{Option, Some, None}
+use Rattle.std.specs.List.{position, position_or_len}
 use native.Mathlib.Omega.{arith}
 use native.Mathlib.Numerals.{add-one}
 use lib.Dec.{ltb, eqb}
-use lib.ListN.{length, take, drop, get_or, set, length-append, length-map, drop_of_length-le}
+use lib.ListN.{length, take, drop, get_or, set, length-append, length-map}
 use lib.Seq.{drop-cons, take-suc, take_all, length-take-le}
-use borrow.Author.Tests.{eqb-true, eqb-false, eq-eqb, ne_eqb}
+use borrow.Author.Tests.{ltb-true, ltb-false, lt-ltb, le-ltb, eqb-true, eqb-false, eq-eqb, ne_eqb}
 use Rattle.units.specs.Units.{moment, tunnel}
 use Rattle.units.specs.declared.Moment.{Moment}
 use Rattle.units.specs.declared.Tunnel.{Tunnel}
@@ -18,16 +21,15 @@ use Rattle.rules.specs.Lists.{keep}
 use Rattle.rules.specs.Vcpu.{comes}
 use Rattle.rules.specs.Vcpu.{Vcpu as Tenant}
 use Rattle.rules.specs.Remember.{Remembered, latest, leaves_until, remembering, is_kept, kept, time_of}
-use Rattle.rules.proofs.Lists.{all_among, length-keep}
-use Rattle.rules.proofs.Memory.{recalled}
+use Rattle.rules.proofs.Lists.{length-keep}
 use Rattle.turns.specs.declared.Memory.{Memory}
 use Rattle.turns.specs.Laid.{laid}
-use Rattle.turns.specs.Written.{never, nobody, written, timer_at, timer_of, slots, memories, id_of, until_of, memory_of}
+use Rattle.turns.specs.Written.{never, nobody, written, timer_at, timer_of, moment_said, slots, memories, id_of, until_of, memory_of}
 use Rattle.turns.specs.Steps.{latest_of}
-use Rattle.turns.specs.Remembered.{Fixed, Below, with_of, leaving_of}
+use Rattle.turns.specs.Remembered.{Fixed, with_of, leaving_of}
 use Rattle.turns.proofs.Laid.{laid-get, laid_end, laid-length, front-get, front_vacate, front-end, front-all}
-use Rattle.turns.proofs.Written.{Formed, queue, refills}
 use Rattle.turns.proofs.Choose.{Rises, Calm}
+use Rattle.turns.specs.Tenants.{Formed, queue, refills}
 
 slots-laid : (y : Tunnel) (z : Moment) (k : ℕ) (rs : List Remembered) → length rs ≤ k
     → slots (length rs) (laid k id_of y rs) (laid k until_of z rs) ≡ rs
@@ -43,52 +45,69 @@ memory-shown rs h = slots-laid (tunnel nobody) (moment never) 32 rs h
 pub memory-fixed : (rs : List Remembered) → length rs ≤ 32 → Fixed (memory_of rs)
 memory-fixed rs h = record { few = h; written = ap memory_of (sym (memory-shown rs h)) }
 
+-- those who are remembered still are written and shown again
+pub kept_again : (now : ℕ) (m : Memory) → m.count ≤ 32
+    → Fixed (memory_of (kept now (memories m))) × (memories (memory_of (kept now (memories m))) ≡ kept now (memories m))
+kept_again now m h =
+    let few : length (kept now (memories m)) ≤ 32 =
+    omega (arith, h, shown-most m.count m.ids m.until, length-keep (is_kept now) (memories m)) in
+    (memory-fixed (kept now (memories m)) few, memory-shown (kept now (memories m)) few)
+  where
+    shown-most : (n : ℕ) (ts : List Tunnel) (ms : List Moment) → length (slots n ts ms) ≤ n
+    shown-most zero ts ms = omega arith
+    shown-most (suc n) [] ms = omega arith
+    shown-most (suc n) (t ∷ ts) [] = omega arith
+    shown-most (suc n) (t ∷ ts) (x ∷ ms) = omega (arith, shown-most n ts ms)
+
 pub fixed-length : (m : Memory) → Fixed m → (length m.ids ≡ 32) × (length m.until ≡ 32)
 fixed-length m f = (
   ap (λ (x : Memory). length x.ids) f.written ∙ laid-length id_of (tunnel nobody) 32 (memories m),
   ap (λ (x : Memory). length x.until) f.written ∙ laid-length until_of (moment never) 32 (memories m),
 )
 
-slots_length : (n : ℕ) (ts : List Tunnel) (ms : List Moment) → n ≤ length ts → n ≤ length ms → length (slots n ts ms) ≡ n
-slots_length zero ts ms h g = refl
-slots_length (suc n) [] ms h g = absurd (omega arith)
-slots_length (suc n) (t ∷ ts) [] h g = absurd (omega arith)
-slots_length (suc n) (t ∷ ts) (m ∷ ms) h g = ap suc (slots_length n ts ms (omega arith) (omega arith))
-
 -- one slot
 abbrev pub slot_of : Tunnel → Moment → Remembered
 slot_of t m = record { tunnel = t.0; time = m.0 }
 
-slots_get : (n : ℕ) (ts : List Tunnel) (ms : List Moment) (k : ℕ) (t : Tunnel) (m : Moment) (r : Remembered)
-    → k < n → n ≤ length ts → n ≤ length ms → get_or (slots n ts ms) k r ≡ slot_of (get_or ts k t) (get_or ms k m)
-slots_get zero ts ms k t m r i h g = absurd (omega arith)
-slots_get (suc n) [] ms k t m r i h g = absurd (omega arith)
-slots_get (suc n) (x ∷ ts) [] k t m r i h g = absurd (omega arith)
-slots_get (suc n) (x ∷ ts) (y ∷ ms) zero t m r i h g = refl
-slots_get (suc n) (x ∷ ts) (y ∷ ms) (suc k) t m r i h g = slots_get n ts ms k t m r (omega arith) (omega arith) (omega arith)
+-- the time in a slot, if it is one
+abbrev pub told_at : List Moment → Option ℕ → Option Moment
+told_at ms None = None
+told_at ms (Some k) = Some (get_or ms k (moment 0))
 
--- a search looks one slot further
-module _ (t n k : ℕ) (ts : List Tunnel) (ms : List Moment) (i : k < n) (h : n ≤ length ts) (g : n ≤ length ms) where
-  next : drop k (slots n ts ms) ≡ slot_of (get_or ts k (tunnel 0)) (get_or ms k (moment 0)) ∷ drop (k + 1) (slots n ts ms)
-  next =
-      rw (
-        add-one,
-        drop-cons (slots n ts ms) k (slot_of (tunnel 0) (moment 0)) (omega (arith, slots_length n ts ms h g)),
-        slots_get n ts ms k (tunnel 0) (moment 0) (slot_of (tunnel 0) (moment 0)) i h g,
-      )
+both_more : (a n : ℕ) → ltb (suc a) (suc n) ≡ ltb a n
+both_more a n = go (ltb a n) refl
+  where
+    go : (b : Bool) → ltb a n ≡ b → ltb (suc a) (suc n) ≡ ltb a n
+    go true e = rw e (lt-ltb (suc a) (suc n) (omega (arith, ltb-true a n e)))
+    go false e = rw e (le-ltb (suc a) (suc n) (omega (arith, ltb-false a n e)))
 
-  pub time-here : eqb (get_or ts k (tunnel 0)).0 t ≡ true → time_of t (drop k (slots n ts ms)) ≡ some (get_or ms k (moment 0)).0
-  time-here e = rw (next, e)
+-- a search for an identifier finds its time
+pub time-found : (t n : ℕ) (ts : List Tunnel) (ms : List Moment) → n ≤ length ts → n ≤ length ms
+    → moment_said (time_of t (slots n ts ms)) ≡ told_at ms (position (λ (x : Tunnel). eqb x.0 t) (take n ts))
+time-found t n ts ms h g =
+    ap moment_said (at n ts ms h g)
+    ∙ go (ltb (place n ts) n)
+    ∙ ap (λ (l : ℕ). told_at ms (cond (ltb (place n ts) l) (Some (place n ts)) None)) (sym (length-take-le n ts h))
+  where
+    place : ℕ → List Tunnel → ℕ
+    place n ts = position_or_len (λ (x : Tunnel). eqb x.0 t) (take n ts)
 
-  pub time_on : eqb (get_or ts k (tunnel 0)).0 t ≡ false
-      → time_of t (drop k (slots n ts ms)) ≡ time_of t (drop (k + 1) (slots n ts ms))
-  time_on e = rw (next, e)
+    go : (b : Bool) → moment_said (cond b (some (get_or ms (place n ts) (moment 0)).0) none) ≡ told_at ms (cond b (Some (place n ts)) None)
+    go true = refl
+    go false = refl
 
-pub time-end : (t n k : ℕ) (ts : List Tunnel) (ms : List Moment) → n ≤ k → n ≤ length ts → n ≤ length ms
-    → time_of t (drop k (slots n ts ms)) ≡ none
-time-end t n k ts ms i h g =
-    let l : length (slots n ts ms) ≤ k = omega (arith, slots_length n ts ms h g) in
-    ap (time_of t) (drop_of_length-le (slots n ts ms) l)
+    at : (n : ℕ) (ts : List Tunnel) (ms : List Moment) → n ≤ length ts → n ≤ length ms
+        → time_of t (slots n ts ms) ≡ cond (ltb (place n ts) n) (some (get_or ms (place n ts) (moment 0)).0) none
+    at zero ts ms h g = refl
+    at (suc n) [] ms h g = absurd (omega arith)
+    at (suc n) (x ∷ ts) [] h g = absurd (omega arith)
+    at (suc n) (x ∷ ts) (m ∷ ms) h g = one (eqb x.0 t) (at n ts ms (omega arith) (omega arith))
+      where
+        one : (b : Bool) → time_of t (slots n ts ms) ≡ cond (ltb (place n ts) n) (some (get_or ms (place n ts) (moment 0)).0) none
+            → cond b (some m.0) (time_of t (slots n ts ms))
+            ≡ cond (ltb (cond (not b) (1 + place n ts) 0) (suc n)) (some (get_or (m ∷ ms) (cond (not b) (1 + place n ts) 0) (moment 0)).0) none
+        one true e = rw (lt-ltb 0 (suc n) (omega arith)) refl
+        one false e = let s : 1 + place n ts ≡ suc (place n ts) = omega arith in rw (s, both_more (place n ts) n) e
 
 keep-end : {A : Type 0} (test : A → Bool) (l : List A) (a : A) → keep test (l ++ a ∷ []) ≡ keep test l ++ cond (test a) (a ∷ []) []
 keep-end test [] a = refl
@@ -158,10 +177,11 @@ pub record Keeping (now : Moment) (rs : List Remembered) (m : Memory) (left k : 
   pub ids : Passing id_of (tunnel nobody) now.0 rs k m.ids
   pub until : Passing until_of (moment never) now.0 rs k m.until
   pub counted : left ≡ length (so_far now.0 k rs)
+  pub within : left ≤ k
 
 pub keeping_start : (now : Moment) (rs : List Remembered) → Keeping now rs (memory_of rs) 0 0
 unfolding laid
-keeping_start now rs = record { most = omega arith; ids = refl; until = refl; counted = refl }
+keeping_start now rs = record { most = omega arith; ids = refl; until = refl; counted = refl; within = omega arith }
 
 module _ (now : Moment) (rs : List Remembered) (m : Memory) (left k : ℕ) (p : Keeping now rs m left k) (few : length rs ≤ 32) where
   all : length rs ≤ k → so_far now.0 k rs ≡ kept now.0 rs
@@ -203,6 +223,7 @@ module _ (now : Moment) (rs : List Remembered) (m : Memory) (left k : ℕ) (p : 
           ids = passing-none now.0 rs k i few (slot_of (tunnel 0) (moment 0)) id_of (tunnel nobody) m.ids p.ids test;
           until = passing-none now.0 rs k i few (slot_of (tunnel 0) (moment 0)) until_of (moment never) m.until p.until test;
           counted = p.counted ∙ ap length (sym (append-nil (so_far now.0 k rs)) ∙ sym grown);
+          within = omega (arith, p.within);
         }
       where
         test : is_kept now.0 it ≡ false
@@ -231,6 +252,7 @@ module _ (now : Moment) (rs : List Remembered) (m : Memory) (left k : ℕ) (p : 
               ∙ ap (λ (j : ℕ). set (set m.until k (moment never)) j (until_of it)) p.counted
               ∙ passing-one now.0 rs k i few (slot_of (tunnel 0) (moment 0)) until_of (moment never) m.until p.until test;
           counted = omega (arith, p.counted, ap length grown, length-append (so_far now.0 k rs) (it ∷ []));
+          within = omega (arith, p.within);
         }
       where
         test : is_kept now.0 it ≡ true
@@ -304,17 +326,12 @@ module _ (v : Tenant) (c : Calm v) (few : length v.pending ≤ 8) where
   leaving-written rs t h below =
       rw latest-written (go (leaves_until v) below)
     where
-      go : (o : Option ℕ) → ((u : ℕ) → o ≡ some u → u < never)
+      go : (o : Maybe ℕ) → ((u : ℕ) → o ≡ some u → u < never)
           → cond (eqb (timer_of o) never) (memory_of rs) (with_of (memory_of rs) t (moment (timer_of o))) ≡ memory_of (rs ++ remembering t.0 o)
       go none g = ap memory_of (sym (append-nil rs))
       go (some u) g = rw (ne_eqb u never (λ e. absurd (omega (arith, g u refl)))) (with-written rs t.0 u h)
 
 -- the time that an identifier is remembered with, of times that lie below the one above all
-pub time-back : (o : Option ℕ) → ((t : ℕ) → o ≡ some t → t < never) → timer_at (timer_of o) ≡ o
+pub time-back : (o : Maybe ℕ) → ((t : ℕ) → o ≡ some t → t < never) → timer_at (timer_of o) ≡ o
 time-back none h = refl
 time-back (some t) h = rw (ne_eqb t never (λ e. absurd (omega (arith, h t refl))))
-
-pub below-time : (rs : List Remembered) → Below rs → (t u : ℕ) → time_of t rs ≡ some u → u < never
-below-time rs b t u e =
-    let r = recalled t rs u e in
-    subst (λ (n : ℕ). n < never) r.3 (all_among (λ x. x.time < never) rs b r.0 r.1)

@@ -16,7 +16,7 @@ use Rattle.rules.proofs.Brought.{usable-told}
 use Rattle.turns.specs.declared.Kind.{Kind}
 use Rattle.turns.specs.declared.Kind.TheVariants.{Sporadic, Deferrable, Polling}
 use Rattle.turns.specs.declared.Vcpu.{Vcpu}
-use Rattle.turns.specs.declared.Brought.{Brought}
+use Rattle.turns.specs.declared.Told.{Told}
 use Rattle.turns.specs.Written.{paper_kind, boundary_at, written, shown}
 use Rattle.turns.specs.Steps.{has_queue, left_of, head_of, bare, brought_to, Returnable}
 
@@ -48,12 +48,10 @@ module _ (v : Vcpu) (now : Moment) (r : Returnable v now) where
   -- a report that has the difference and the head
   pub reports : (w : Vcpu) (ticks : Amount) (next : Moment) → w ≡ written (returned now.0 (bare v))
       → ticks ≡ amount (w.usable.0 - v.usable.0) → next ≡ moment (head_of w)
-      → ◌≡◌ {A = Brought} (record { vcpu = w; told = record { ticks = ticks; next = next } }) (brought_to now.0 (bare v))
+      → ◌≡◌ {A = Told} (record { ticks = ticks; next = next }) (brought_to now.0 (bare v))
   reports w ticks next e f g =
-      same w (written (returned now.0 (bare v))) ticks (amount (tells now.0 (bare v)).ticks) next _ e
+      same ticks (amount (tells now.0 (bare v)).ticks) next _
       (f ∙ ap amount (omega (arith, gains, ap (λ (x : Vcpu). x.usable.0) e))) (g ∙ ap (λ (x : Vcpu). moment (head_of x)) e)
     where
-      same : (w w' : Vcpu) (t t' : Amount) (m m' : Moment) → w ≡ w' → t ≡ t' → m ≡ m'
-          → ◌≡◌ {A = Brought} (record { vcpu = w; told = record { ticks = t; next = m } })
-          (record { vcpu = w'; told = record { ticks = t'; next = m' } })
-      same w w' t t' m m' a b c = rw (a, b, c)
+      same : (t t' : Amount) (m m' : Moment) → t ≡ t' → m ≡ m' → ◌≡◌ {A = Told} (record { ticks = t; next = m }) (record { ticks = t'; next = m' })
+      same t t' m m' a b = rw (a, b)

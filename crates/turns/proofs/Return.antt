@@ -6,10 +6,12 @@ use mathlib.Core.Bool.{Bool, true, false}
 use mathlib.Core.List.{List, [], ◌∷◌, ◌++◌, map}
 use mathlib.Core.Option.{Option, none, some}
 use native.Mathlib.Omega.{arith}
-use lib.Dec.{ltb, eqb}
-use lib.ListN.{length, take, drop, get_or, replicate, length-drop}
-use lib.Seq.{take_all}
-use borrow.Author.Tests.{ltb-false, le-leb, lt-leb, eqb-true, eqb-false}
+use lib.Dec.{leb}
+use lib.ListN.{length, take, drop, get_or, length-drop}
+use lib.Seq.{take_all, length-take-le}
+use Rattle.std.specs.List.{prefix_len}
+use Rattle.std.proofs.lemmas.List.Sums.{prefix_len-le-length, prefix_len_passes, prefix_len_stops, sum_by-cons}
+use borrow.Author.Tests.{le-leb, lt-leb, leb-true, leb-false}
 use Rattle.units.specs.Units.{moment, amount, total}
 use Rattle.units.specs.declared.Moment.{Moment}
 use Rattle.units.specs.declared.Amount.{Amount}
@@ -18,12 +20,15 @@ use Rattle.rules.specs.Vcpu.{Entry, times, comes}
 use Rattle.rules.specs.Vcpu.{Vcpu as Tenant}
 use Rattle.rules.specs.Return.{is_due, returned, refill, brought_in, brought, still}
 use Rattle.rules.proofs.Queue.{brought-all}
+use Rattle.turns.specs.declared.Kind.{Kind}
+use Rattle.turns.specs.declared.Kind.TheVariants.{Sporadic, Deferrable, Polling}
 use Rattle.turns.specs.declared.Vcpu.{Vcpu}
 use Rattle.turns.specs.Laid.{laid}
-use Rattle.turns.specs.Written.{never, amount_of, kind_as, written, shown}
-use Rattle.turns.specs.Steps.{has_queue, from_of, ticks_in, returned_first, owing_as, lowered_of, head_of, bare, Returnable}
-use Rattle.turns.proofs.Laid.{laid-length, laid-drop}
-use Rattle.turns.proofs.Written.{Formed, queue, refills, due_of, with_queue, as-queue, boundary-none}
+use Rattle.turns.specs.Written.{never, amount_of, paper_kind, kind_as, boundary_at, written, shown}
+use Rattle.turns.specs.Steps.{has_queue, from_of, ticks_in, returned_first, due_count, head_of, bare, Returnable}
+use Rattle.turns.proofs.Laid.{laid-drop}
+use Rattle.turns.proofs.Written.{due_of, with_queue, as-queue, boundary-none}
+use Rattle.turns.specs.Tenants.{Formed, queue, refills}
 
 -- the first of some times, or the time above all
 abbrev pub first : List ℕ → ℕ
@@ -54,8 +59,8 @@ queued v u q t =
       held_total = v.held_total;
     }
 
-abbrev as_record : Tenant → List Moment → List Amount → ℕ → ℕ → Vcpu
-as_record v ds bs u n =
+abbrev as_record : Tenant → List Moment → List Amount → ℕ → ℕ → ℕ → Vcpu
+as_record v ds bs u t n =
     record {
       due = ds;
       ended = moment v.ended;
@@ -64,16 +69,16 @@ as_record v ds bs u n =
       period = amount v.terms.period;
       capacity = amount v.terms.capacity;
       usable = amount u;
-      pending = amount v.pending_total;
+      pending = amount t;
       priority = v.terms.priority;
       runnable = v.runnable;
       count = n;
       kind = kind_as v.terms.kind;
     }
 
-same-record : (v : Tenant) (ds ds' : List Moment) (bs bs' : List Amount) (u u' n n' : ℕ)
-    → ds ≡ ds' → bs ≡ bs' → u ≡ u' → n ≡ n' → as_record v ds bs u n ≡ as_record v ds' bs' u' n'
-same-record v ds ds' bs bs' u u' n n' p q r s = rw (p, q, r, s)
+same-record : (v : Tenant) (ds ds' : List Moment) (bs bs' : List Amount) (u u' t t' n n' : ℕ)
+    → ds ≡ ds' → bs ≡ bs' → u ≡ u' → t ≡ t' → n ≡ n' → as_record v ds bs u t n ≡ as_record v ds' bs' u' t' n'
+same-record v ds ds' bs bs' u u' t t' n n' p q r o s = rw (p, q, r, o, s)
 
 bring-none : (now : ℕ) (v : Tenant) → now < first (map (λ e. e.due) v.pending) → brought_in now v ≡ v
 bring-none now v h = go v.pending refl h
@@ -104,34 +109,9 @@ returned-none now v l f h =
     apart (refills k m p b e) =
         (rw p l, subst (λ (q : List Entry). now < first (map (λ e. e.due) q ++ times v.boundary)) p h)
 
--- an array of eight from the slot k on, by the elements that stay
-eight-from : {A : Type 0} (o z : A) (l : List A) (k : ℕ) → length l ≡ 8 → k ≤ 8 → from_of o z k l ≡ drop k l ++ replicate k z
-eight-from o z (a ∷ b ∷ c ∷ d ∷ e ∷ f ∷ g ∷ h ∷ []) k p q = go k q
-  where
-    go : (k : ℕ) → k ≤ 8 → from_of o z k (a ∷ b ∷ c ∷ d ∷ e ∷ f ∷ g ∷ h ∷ []) ≡ drop k (a ∷ b ∷ c ∷ d ∷ e ∷ f ∷ g ∷ h ∷ []) ++ replicate k z
-    go zero q = refl
-    go (suc zero) q = refl
-    go (suc (suc zero)) q = refl
-    go (suc (suc (suc zero))) q = refl
-    go (suc (suc (suc (suc zero)))) q = refl
-    go (suc (suc (suc (suc (suc zero))))) q = refl
-    go (suc (suc (suc (suc (suc (suc zero)))))) q = refl
-    go (suc (suc (suc (suc (suc (suc (suc zero))))))) q = refl
-    go (suc (suc (suc (suc (suc (suc (suc (suc zero)))))))) q = refl
-    go (suc (suc (suc (suc (suc (suc (suc (suc (suc k))))))))) q = absurd (omega arith)
-eight-from o z [] k p q = absurd (omega arith)
-eight-from o z (a ∷ []) k p q = absurd (omega arith)
-eight-from o z (a ∷ b ∷ []) k p q = absurd (omega arith)
-eight-from o z (a ∷ b ∷ c ∷ []) k p q = absurd (omega arith)
-eight-from o z (a ∷ b ∷ c ∷ d ∷ []) k p q = absurd (omega arith)
-eight-from o z (a ∷ b ∷ c ∷ d ∷ e ∷ []) k p q = absurd (omega arith)
-eight-from o z (a ∷ b ∷ c ∷ d ∷ e ∷ f ∷ []) k p q = absurd (omega arith)
-eight-from o z (a ∷ b ∷ c ∷ d ∷ e ∷ f ∷ g ∷ []) k p q = absurd (omega arith)
-eight-from o z (a ∷ b ∷ c ∷ d ∷ e ∷ f ∷ g ∷ h ∷ i ∷ l) k p q = absurd (omega arith)
-
-from-laid : {A : Type 0} (f : Entry → A) (o z : A) (n : ℕ) (q : List Entry) → n ≤ length q → length q ≤ 8
-    → from_of o z n (laid 8 f z q) ≡ laid 8 f z (drop n q)
-from-laid f o z n q h l = eight-from o z (laid 8 f z q) n (laid-length f z 8 q) (omega arith) ∙ sym (laid-drop f z 8 n q h l)
+from-laid : {A : Type 0} (f : Entry → A) (z : A) (n : ℕ) (q : List Entry) → n ≤ length q → length q ≤ 8
+    → from_of z n (laid 8 f z q) ≡ laid 8 f z (drop n q)
+from-laid f z n q h l = sym (laid-drop f z 8 n q h l)
 
 ticks-laid : (m n : ℕ) (q : List Entry) → n ≤ length q → length q ≤ m
     → ticks_in n (laid m amount_of (amount 0) q) ≡ sum (λ e. e.amount) (take n q)
@@ -139,15 +119,11 @@ unfolding laid
 ticks-laid m zero q h l = refl
 ticks-laid m (suc n) [] h l = absurd (omega arith)
 ticks-laid zero (suc n) (e ∷ q) h l = absurd (omega arith)
-ticks-laid (suc m) (suc n) (e ∷ q) h l = ap (λ (k : ℕ). e.amount + k) (ticks-laid m n q (omega arith) (omega arith))
+ticks-laid (suc m) (suc n) (e ∷ q) h l =
+    sum_by-cons (λ (a : Amount). a.0) (amount e.amount) (take n (laid m amount_of (amount 0) q))
+    ∙ ap (λ (k : ℕ). e.amount + k) (ticks-laid m n q (omega arith) (omega arith))
 
--- sums of a front: one more, and a longer front
-pub sum_more : {A : Type 0} (f : A → ℕ) (o : A) (l : List A) (i : ℕ) → i < length l
-    → sum f (take i l) + f (get_or l i o) ≡ sum f (take (suc i) l)
-sum_more f o [] i h = absurd (omega arith)
-sum_more f o (x ∷ l) zero h = omega arith
-sum_more f o (x ∷ l) (suc i) h = omega (arith, sum_more f o l i (omega arith))
-
+-- the sum of a longer front
 pub sum-longer : {A : Type 0} (f : A → ℕ) (l : List A) (i k : ℕ) → i ≤ k → sum f (take i l) ≤ sum f (take k l)
 sum-longer f l zero k h = omega arith
 sum-longer f l (suc i) zero h = absurd (omega arith)
@@ -186,25 +162,29 @@ front now (suc m) (suc n) (f ∷ q) t l h d e =
 abbrev pub due_at : Vcpu → ℕ → ℕ
 due_at w i = (get_or w.due i (moment 0)).0
 
--- the first n slots are due: one, from the head, and one more
+-- the first n slots are due
 abbrev pub Due : Vcpu → Moment → ℕ → Type 0
 Due w now n = (i : ℕ) → i < n → due_at w i ≤ now.0
 
-pub due-head : (w : Vcpu) (now : Moment) → head_of w ≤ now.0 → Due w now 1
-due-head w now h zero k = h
-due-head w now h (suc i) k = absurd (omega arith)
-
-pub due-more : (w : Vcpu) (now : Moment) (n : ℕ) → Due w now n → ltb now.0 (due_at w n) ≡ false → Due w now (suc n)
-due-more w now n d e i h = go (eqb i n) refl
-  where
-    go : (t : Bool) → eqb i n ≡ t → due_at w i ≤ now.0
-    go true s = subst (λ (j : ℕ). due_at w j ≤ now.0) (sym (eqb-true i n s)) (ltb-false now.0 (due_at w n) e)
-    go false s = d i (omega (arith, eqb-false i n s))
+-- .. as many as are counted, and the next is not
+counted : (w : Vcpu) (now : Moment) → let n = due_count now w.due in
+    (n ≤ length w.due) × Due w now n × (n < length w.due → now.0 < due_at w n)
+counted w now =
+    let p : Moment → Bool = λ d. leb d.0 now.0 in
+    let h = prefix_len-le-length p w.due in
+    let e : due_count now w.due ≡ prefix_len p w.due = length-take-le (prefix_len p w.due) w.due h in
+    subst (λ (n : ℕ). (n ≤ length w.due) × Due w now n × (n < length w.due → now.0 < due_at w n)) (sym e) (
+      h,
+      (λ i k. leb-true (due_at w i) now.0 (prefix_len_passes p w.due i (moment 0) k)),
+      (λ k. leb-false (due_at w (prefix_len p w.due)) now.0 (prefix_len_stops p w.due (moment 0) k)),
+    )
 
 -- n slots of a record that has a queue can be taken, and what is left is as the rule leaves it
 pub record Swept (w : Vcpu) (now : Moment) (n : ℕ) : Type 0 where
-  pub asks : ((n ≤ w.count) × (n ≤ 8)) × (w.usable.0 + ticks_in n w.amount < 4294967296)
-  pub end : returned_first n w ≡ owing_as (written (returned now.0 (bare w))) w.pending
+  pub few : (n ≤ w.count) × (n ≤ 8)
+  pub fits : w.usable.0 + ticks_in n w.amount < 4294967296
+  pub owed : ticks_in n w.amount ≤ w.pending.0
+  pub end : returned_first n w ≡ written (returned now.0 (bare w))
 
 module _ (w : Vcpu) (now : Moment) (r : Returnable w now) (k : has_queue w.kind ≡ true) where
   alone : (bare w).boundary ≡ none
@@ -217,36 +197,40 @@ module _ (w : Vcpu) (now : Moment) (r : Returnable w now) (k : has_queue w.kind 
   laid_out : w ≡ with_queue (bare w) q
   laid_out = r.written ∙ as-queue (bare w) alone
 
-  ends : (n : ℕ) → Front now.0 n q → returned_first n w ≡ owing_as (written (returned now.0 (bare w))) w.pending
+  ends : (n : ℕ) → Front now.0 n q → returned_first n w ≡ written (returned now.0 (bare w))
   unfolding returned_first written shown
   ends n f =
       ap (returned_first n) laid_out
       ∙ same-record (bare w)
-      (from_of (moment 0) (moment never) n (laid 8 due_of (moment never) q)) (laid 8 due_of (moment never) (still now.0 q))
-      (from_of (amount 0) (amount 0) n (laid 8 amount_of (amount 0) q)) (laid 8 amount_of (amount 0) (still now.0 q))
+      (from_of (moment never) n (laid 8 due_of (moment never) q)) (laid 8 due_of (moment never) (still now.0 q))
+      (from_of (amount 0) n (laid 8 amount_of (amount 0) q)) (laid 8 amount_of (amount 0) (still now.0 q))
       ((bare w).usable + ticks_in n (laid 8 amount_of (amount 0) q)) ((bare w).usable + brought now.0 q)
+      ((bare w).pending_total - ticks_in n (laid 8 amount_of (amount 0) q)) ((bare w).pending_total - brought now.0 q)
       (length q - n) (length (still now.0 q))
-      (from-laid due_of (moment 0) (moment never) n q f.enough r.few ∙ ap (laid 8 due_of (moment never)) (sym f.rest))
-      (from-laid amount_of (amount 0) (amount 0) n q f.enough r.few ∙ ap (laid 8 amount_of (amount 0)) (sym f.rest))
+      (from-laid due_of (moment never) n q f.enough r.few ∙ ap (laid 8 due_of (moment never)) (sym f.rest))
+      (from-laid amount_of (amount 0) n q f.enough r.few ∙ ap (laid 8 amount_of (amount 0)) (sym f.rest))
       (ap (λ (t : ℕ). (bare w).usable + t) (ticks-laid 8 n q f.enough r.few ∙ sym f.ticks))
+      (ap (λ (t : ℕ). (bare w).pending_total - t) (ticks-laid 8 n q f.enough r.few ∙ sym f.ticks))
       (sym (ap length f.rest ∙ length-drop n q))
-      ∙ ap (λ (x : Vcpu). owing_as x w.pending) (sym (as-queue (brought_in now.0 (bare w)) alone)
-      ∙ ap (λ (o : Option ℕ). written (refill now.0 o (brought_in now.0 (bare w)))) (sym alone))
+      ∙ sym (as-queue (brought_in now.0 (bare w)) alone)
+      ∙ ap (λ (o : Option ℕ). written (refill now.0 o (brought_in now.0 (bare w)))) (sym alone)
 
-  pub swept : (n : ℕ) → n ≤ 8 → Due w now n → (n < 8 → now.0 < due_at w n) → Swept w now n
+  -- what the step takes was pending
+  was-pending : brought now.0 q ≤ (bare w).pending_total
+  was-pending = omega (arith, brought-all now.0 q, r.adds)
+
+  swept : (n : ℕ) → n ≤ 8 → Due w now n → (n < 8 → now.0 < due_at w n) → Swept w now n
   unfolding shown
   swept n h d e =
       record {
-        asks = (
-          (subst (λ (c : ℕ). n ≤ c) (sym (ap (λ (x : Vcpu). x.count) laid_out)) f.enough, h),
-          subst (λ (t : ℕ). w.usable.0 + t < 4294967296)
-              (sym (ap (λ (x : Vcpu). ticks_in n x.amount) laid_out ∙ ticks-laid 8 n q f.enough r.few))
-              (omega (
-                arith,
-                r.fits,
-                rw (take_all (length q) q (omega arith)) at (sum-longer (λ e. e.amount) q n (length q) f.enough),
-              )),
-        );
+        few = (subst (λ (c : ℕ). n ≤ c) (sym (ap (λ (x : Vcpu). x.count) laid_out)) f.enough, h);
+        fits = subst (λ (t : ℕ). w.usable.0 + t < 4294967296) (sym ticks)
+            (omega (
+              arith,
+              r.fits,
+              rw (take_all (length q) q (omega arith)) at (sum-longer (λ e. e.amount) q n (length q) f.enough),
+            ));
+        owed = subst (λ (t : ℕ). t ≤ w.pending.0) (sym (ticks ∙ sym f.ticks)) was-pending;
         end = ends n f;
       }
     where
@@ -258,23 +242,27 @@ module _ (w : Vcpu) (now : Moment) (r : Returnable w now) (k : has_queue w.kind 
           (λ i j. subst (λ (ds : List Moment). (get_or ds i (moment 0)).0 ≤ now.0) dues (d i j))
           (λ j. subst (λ (ds : List Moment). now.0 < (get_or ds n (moment 0)).0) dues (e j))
 
-  -- what the step brought is what is usable more, and was pending
-  brings : written (returned now.0 (bare w)) ≡ written (brought_in now.0 (bare w))
-  brings = ap (λ (o : Option ℕ). written (refill now.0 o (brought_in now.0 (bare w)))) alone
+      ticks : ticks_in n w.amount ≡ sum (λ e. e.amount) (take n q)
+      ticks = ap (λ (x : Vcpu). ticks_in n x.amount) laid_out ∙ ticks-laid 8 n q f.enough r.few
 
-  was-pending : brought now.0 q ≤ (bare w).pending_total
-  was-pending = omega (arith, brought-all now.0 q, r.adds)
+  pub swept-due : length w.due ≡ 8 → Swept w now (due_count now w.due)
+  swept-due l =
+      let c = counted w now in
+      subst (λ (k : ℕ). (due_count now w.due ≤ k) × Due w now (due_count now w.due) × (due_count now w.due < k → now.0 < due_at w (due_count now w.due))
+      → Swept w now (due_count now w.due)) (sym l) (λ x. swept (due_count now w.due) x.0 x.1 x.2) c
 
-  pub lowers-asks : let x = owing_as (written (returned now.0 (bare w))) w.pending in
-      (w.usable.0 ≤ x.usable.0) × (x.usable.0 - w.usable.0 ≤ w.pending.0)
-  unfolding written shown
-  lowers-asks =
-      subst (λ (x : Vcpu). (w.usable.0 ≤ x.usable.0) × (x.usable.0 - w.usable.0 ≤ w.pending.0)) (sym brings)
-      (omega arith, omega (arith, was-pending))
+-- where nothing is due, it is as it was
+formed : (w : Vcpu) (now : Moment) → Returnable w now → Formed (bare w)
+unfolding shown
+formed w now r = go w.kind (r.no-queue) refl
+  where
+    go : (k : Kind) → (has_queue k ≡ false → (bare w).pending ≡ []) → w.kind ≡ k → Formed (bare w)
+    go Sporadic n e = queue (ap paper_kind e) (ap (λ (x : Kind). boundary_at x (get_or w.due 0 (moment 0))) e)
+    go Deferrable n e = refills (λ z. absurd (omega (arith, ap paper_kind e))) (omega (arith, ap paper_kind e)) (n refl) (head_of w) (ap (λ (x : Kind). boundary_at x (get_or w.due 0 (moment 0))) e)
+    go Polling n e = refills (λ z. absurd (omega (arith, ap paper_kind e))) (omega (arith, ap paper_kind e)) (n refl) (head_of w) (ap (λ (x : Kind). boundary_at x (get_or w.due 0 (moment 0))) e)
 
-  pub lowers : lowered_of w (owing_as (written (returned now.0 (bare w))) w.pending) ≡ written (returned now.0 (bare w))
-  unfolding written shown
-  lowers =
-      ap (λ (x : Vcpu). lowered_of w (owing_as x w.pending)) brings
-      ∙ ap (λ (n : ℕ). owing_as (written (brought_in now.0 (bare w))) (amount n)) (omega arith)
-      ∙ sym brings
+pub rests : (w : Vcpu) (now : Moment) → Returnable w now → now.0 < head_of w → w ≡ written (returned now.0 (bare w))
+rests w now r h =
+    r.written
+    ∙ ap written (sym (returned-none now.0 (bare w) (omega (arith, r.time)) (formed w now r)
+    (subst (λ (n : ℕ). now.0 < n) (ap head_of r.written ∙ head-written (bare w)) h)))

@@ -6,10 +6,7 @@ use mathlib.Core.Bool.{true}
 use mathlib.Core.List.{List, [], ◌∷◌, ◌++◌, map}
 use mathlib.Core.Option.{Option, none, some}
 use native.Mathlib.Omega.{arith}
-use lib.ListN.{length, get_or, take, drop, length-take, drop_of_length-le}
-use lib.Seq.{drop-cons, get_or-take}
-use native.Mathlib.Numerals.{add-one}
-use borrow.Author.Tests.{lt-ltb}
+use lib.ListN.{length, take}
 use Rattle.units.specs.Units.{moment, amount, tunnel, total}
 use Rattle.units.specs.declared.Moment.{Moment}
 use Rattle.units.specs.declared.Tunnel.{Tunnel}
@@ -21,19 +18,11 @@ use Rattle.rules.specs.Card.{Card, empty}
 use Rattle.rules.specs.Choose.{ready, choose, runs, usable_of}
 use Rattle.rules.specs.Timer.{earlier, earliest, next, nexts, runnable, above, timer}
 use Rattle.rules.specs.Remember.{Remembered}
-use Rattle.rules.specs.Turn.{settled, report, reported, answered, accepted, turn, ok}
-use Rattle.rules.specs.Refuse.{refusal}
-use Rattle.rules.specs.Refuse.{Refusal as Row}
+use Rattle.rules.specs.Turn.{settled, report}
 use Rattle.units.specs.declared.Amount.{Amount}
 use Rattle.units.specs.declared.Total.{Total}
-use Rattle.turns.specs.declared.Answer.{Answer}
-use Rattle.turns.specs.declared.Change.{Change}
-use Rattle.turns.specs.declared.Holder.{Holder}
-use Rattle.turns.specs.declared.Timer.{Timer}
-use Rattle.turns.specs.declared.Refusal.{Refusal}
-use Rattle.turns.specs.declared.Reply.TheVariants.{Done, No}
-use Rattle.rules.specs.Turn.{Call}
-use Rattle.rules.specs.History.{after}
+use Rattle.turns.specs.declared.Report.{Report}
+use Rattle.turns.specs.declared.Roster.{Roster}
 use Rattle.rules.specs.Meaning.{Comes, return, boundary}
 use Rattle.rules.proofs.Tests.{no-some}
 use Rattle.rules.proofs.Lists.{all_imp, all_both, all_among}
@@ -42,23 +31,21 @@ use Rattle.rules.proofs.Sound.{Sound}
 use Rattle.rules.proofs.Timer.{in_idle, while_running}
 use Rattle.turns.specs.declared.Vcpu.{Vcpu}
 use Rattle.turns.specs.declared.Memory.{Memory}
-use Rattle.turns.specs.declared.Core.{Core}
+use Rattle.turns.specs.declared.Core.TheInside.{Inside}
 use Rattle.turns.specs.declared.Pick.{Pick}
-use Rattle.turns.specs.declared.Holder.TheVariants.{Vcpu as Held}
-use Rattle.turns.specs.Written.{never, idle, nobody, tunnel_of, written, no_tenant, card}
-use Rattle.turns.specs.Written.{core_of, place, place_of, timer_of, timer_at, running_at, tenants, memories, memory_of}
-use Rattle.turns.proofs.Invariant.{Ranked, terms_of, SoundCore, Between, orderly-formed}
+use Rattle.std.specs.Prelude.{Option as Opt, Some}
+use Rattle.turns.specs.Written.{never, nobody, tunnel_of, written, no_tenant, card, core_of, table_of, place, place_of, timer_of}
+use Rattle.turns.specs.Written.{timer_at, running_at, tenants, memories, memory_of, places_of, ids_of, moment_in, moment_said, number_said}
+use Rattle.turns.proofs.Invariant.{Between, orderly-formed}
 use Rattle.turns.specs.Laid.{laid}
-use Rattle.turns.specs.Steps.{picks, picked_of, timer_for}
-use Rattle.turns.specs.Places.{holder_of}
-use Rattle.turns.specs.Calls.{holder_said, timer_said, asked, call_of, answer_of, turned}
+use Rattle.turns.specs.Tenants.{Formed, queue, refills, Filled, IsPlace, holder_of, picks, nobody_ready, soonest, timer_for}
+use Rattle.turns.specs.Calls.{report_said}
 use Rattle.turns.proofs.Laid.{laid-get, laid-front}
-use Rattle.turns.proofs.Written.{Formed, queue, refills, tenants-laid}
+use Rattle.turns.proofs.Written.{tenants-laid}
 use Rattle.turns.proofs.Ranked.{all-get}
-use Rattle.turns.proofs.Choose.{Rises, Calm, next-head, nexts-most, idle_with, pick_for, scan}
+use Rattle.turns.proofs.Choose.{Rises, Calm, next-head, nexts-most, pick_for, scan}
 use Rattle.turns.proofs.Remembered.{memory-shown, time-back}
-use Rattle.turns.proofs.Rows.{ids_of}
-use Rattle.turns.proofs.Stage.{places_of, Filled, all_show, all_fit, At, chosen_at}
+use Rattle.turns.proofs.Stage.{all_show, all_fit, At, chosen_at}
 
 rising-below : (low high : ℕ) (q : List Entry) → Rising low high q → All (λ e. e.due ≤ high) q
 rising-below low high [] h = tt
@@ -126,8 +113,12 @@ module _ (now : ℕ) (vs : List Tenant) (l : now ≤ largest_time) (r : Between 
           let g : w.0 ≡ t = cc in
           omega (arith, w.2.in_time, usable-small v a)
 
-  timer-back : timer_at (timer_of (timer now vs (choose vs))) ≡ timer now vs (choose vs)
-  timer-back = time-back (timer now vs (choose vs)) (λ t e. timer-below t e)
+  timer_back : timer_at (timer_of (timer now vs (choose vs))) ≡ timer now vs (choose vs)
+  timer_back = time-back (timer now vs (choose vs)) (λ t e. timer-below t e)
+
+  moments-back : (o : Option ℕ) → moment_in (moment_said o) ≡ o
+  moments-back none = refl
+  moments-back (some t) = refl
 
   running-back : running_at (place_of (runs (choose vs)) vs) (ids_of vs) ≡ runs (choose vs)
   running-back = go (choose vs) refl
@@ -136,18 +127,17 @@ module _ (now : ℕ) (vs : List Tenant) (l : now ≤ largest_time) (r : Between 
       go none e = refl
       go (some v) e =
           let a : At v vs = chosen_at ready vs v r.distinct e in
-          rw (lt-ltb (place v.terms.tunnel vs) idle (omega (arith, a.inside, r.few)))
-          (ap (λ (x : Tunnel). some x.0) (laid-get tunnel_of (tunnel nobody) 32 vs (place v.terms.tunnel vs) no_tenant (tunnel nobody)
-          a.inside r.few) ∙ ap (λ (x : Tenant). some x.terms.tunnel) a.is)
+          ap (λ (x : Tunnel). some x.0) (laid-get tunnel_of (tunnel nobody) 32 vs (place v.terms.tunnel vs) no_tenant (tunnel nobody)
+          a.inside r.few) ∙ ap (λ (x : Tenant). some x.terms.tunnel) a.is
 
   -- what is written is shown again
   pub shown-again : (rs : List Remembered) (g i : ℕ) → length rs ≤ 32
       → card (core_of (settled now vs rs g i)) ≡ settled now vs rs g i
   unfolding card core_of settled
   shown-again rs g i few =
-      same (running_at (place_of (runs (choose vs)) vs) (ids_of vs)) (timer_at (timer_of (timer now vs (choose vs))))
+      same (running_at (place_of (runs (choose vs)) vs) (ids_of vs)) (moment_in (moment_said (timer now vs (choose vs))))
       (tenants (length vs) (ids_of vs) (places_of vs)) (memories (memory_of rs))
-      running-back timer-back (tenants-laid (tunnel nobody) (written no_tenant) 32 vs r.few (all_show vs (all_fit now vs r.each)))
+      running-back (moments-back (timer now vs (choose vs))) (tenants-laid (tunnel nobody) (written no_tenant) 32 vs r.few (all_show vs (all_fit now vs r.each)))
       (memory-shown rs few)
     where
       asCard : Option ℕ → Option ℕ → List Tenant → List Remembered → Card
@@ -158,23 +148,12 @@ module _ (now : ℕ) (vs : List Tenant) (l : now ≤ largest_time) (r : Between 
           → asCard a b c d ≡ asCard (runs (choose vs)) (timer now vs (choose vs)) vs rs
       same a b c d p q s t = rw (p, q, s, t)
 
-  pub core-sound : (rs : List Remembered) (g i : ℕ) → length rs ≤ 32 → (calls : List Call) → settled now vs rs g i ≡ after calls
-      → SoundCore (core_of (settled now vs rs g i))
-  unfolding settled
-  core-sound rs g i few calls e =
-      record {
-        written = ap core_of (sym (shown-again rs g i few));
-        calls = calls;
-        shows = shown-again rs g i few ∙ e;
-        ranked = subst (λ (k : Card). Ranked (terms_of k.vcpus)) (sym (shown-again rs g i few)) r.ranked;
-      }
-
   seat-found : (pick_for never 0 vs (choose vs)).at ≡ place_of (runs (choose vs)) vs
   seat-found = go (choose vs)
     where
       go : (o : Option Tenant) → (pick_for never 0 vs o).at ≡ place_of (runs o) vs
       go none = refl
-      go (some v) = omega arith
+      go (some v) = ap Some (omega arith)
 
   usable-found : (pick_for never 0 vs (choose vs)).usable ≡ amount (usable_of (choose vs))
   usable-found = go (choose vs)
@@ -183,162 +162,111 @@ module _ (now : ℕ) (vs : List Tenant) (l : now ≤ largest_time) (r : Between 
       go none = refl
       go (some v) = refl
 
-  timer-found : timer_for (moment now) (pick_for never 0 vs (choose vs)) ≡ moment (timer_of (timer now vs (choose vs)))
-  unfolding timer_for timer
-  timer-found = go (choose vs) refl
+  soon-found : soonest (pick_for never 0 vs (choose vs)).at (moment now) (pick_for never 0 vs (choose vs))
+      ≡ timer_of (timer now vs (choose vs))
+  unfolding timer
+  soon-found = go (choose vs) refl
     where
-      go : (o : Option Tenant) → choose vs ≡ o → timer_for (moment now) (pick_for never 0 vs o) ≡ moment (timer_of (timer now vs o))
-      go none e = ap moment (omega (arith, nexts-most runnable vs (calm now vs l r.each)))
+      go : (o : Option Tenant) → choose vs ≡ o
+          → soonest (pick_for never 0 vs o).at (moment now) (pick_for never 0 vs o) ≡ timer_of (timer now vs o)
+      go none e = omega (arith, nexts-most runnable vs (calm now vs l r.each))
       go (some v) e =
           let a : At v vs = chosen_at ready vs v r.distinct e in
-          rw (lt-ltb (0 + place v.terms.tunnel vs) idle (omega (arith, a.inside, r.few)))
-          (ap moment (omega (
+          omega (
             arith,
             earlier-min (now + v.usable) (earliest (times v.boundary ++ nexts (keep (above v) vs))) (omega (arith, usable-small v a)),
             usable-small v a,
-          )))
+          )
         where
           earlier-min : (b : ℕ) (o : Option ℕ) → b ≤ never → earlier b o ≡ min b (timer_of o)
           earlier-min b none h = omega arith
           earlier-min b (some c) h = refl
 
-  holder-found : holder_of (ids_of vs) (pick_for never 0 vs (choose vs)).at ≡ holder_said (runs (choose vs))
+  timer-found : timer_for (moment now) (pick_for never 0 vs (choose vs)) ≡ moment_said (timer now vs (choose vs))
+  unfolding timer_for
+  timer-found = ap (λ (n : ℕ). moment_said (timer_at n)) soon-found ∙ ap moment_said timer_back
+
+  holder-found : holder_of (ids_of vs) (pick_for never 0 vs (choose vs)).at ≡ number_said (runs (choose vs))
   holder-found = ap (holder_of (ids_of vs)) seat-found ∙ go (choose vs) refl
     where
-      go : (o : Option Tenant) → choose vs ≡ o → holder_of (ids_of vs) (place_of (runs o) vs) ≡ holder_said (runs o)
+      go : (o : Option Tenant) → choose vs ≡ o → holder_of (ids_of vs) (place_of (runs o) vs) ≡ number_said (runs o)
       go none e = refl
       go (some v) e =
           let a : At v vs = chosen_at ready vs v r.distinct e in
-          rw (lt-ltb (place v.terms.tunnel vs) idle (omega (arith, a.inside, r.few)))
-          (ap Held (laid-get tunnel_of (tunnel nobody) 32 vs (place v.terms.tunnel vs) no_tenant (tunnel 0) a.inside r.few
-          ∙ ap tunnel_of a.is))
+          ap Some (laid-get tunnel_of (tunnel nobody) 32 vs (place v.terms.tunnel vs) no_tenant (tunnel nobody) a.inside r.few
+          ∙ ap tunnel_of a.is)
 
-  pub timer-said : timer_at (timer_for (moment now) (pick_for never 0 vs (choose vs))).0 ≡ timer now vs (choose vs)
-  timer-said = ap (λ (m : Moment). timer_at m.0) timer-found ∙ timer-back
-
-  -- a core by its fields
-  abbrev core_with : List Vcpu → Moment → List Tunnel → Moment → Memory → Total → Total → ℕ → ℕ → Core
-  core_with p last ids t m g i a n =
-      record { places = p; last = last; ids = ids; timer = t; memory = m; removed = g; idle = i; running = a; n = n }
+  -- the place found is one of the table
+  pub found-place : IsPlace (pick_for never 0 vs (choose vs)).at
+  found-place = go (choose vs) refl
+    where
+      go : (o : Option Tenant) → choose vs ≡ o → IsPlace (pick_for never 0 vs o).at
+      go none e = tt
+      go (some v) e = let a : At v vs = chosen_at ready vs v r.distinct e in omega (arith, a.inside, r.few)
 
   module _ (p : List Vcpu) (ids : List Tunnel) (n : ℕ) (f : Filled p ids n vs) where
     -- `T` has the time reported of each, and `ts` these times by their places
     pub pick-found : (T : Tenant → Moment) (ts : List Moment) → ts ≡ laid 32 T (moment never) vs
         → All (λ v. v.runnable ≡ true → T v ≡ moment (timer_of (next v))) vs
-        → picks (idle_with never) 0 (take n p) (take n ts) ≡ pick_for never 0 vs (choose vs)
+        → picks nobody_ready 0 (take n p) (take n ts) ≡ pick_for never 0 vs (choose vs)
     pick-found T ts e h =
         same p (places_of vs) n (length vs) ts (laid 32 T (moment never) vs) f.places f.count e
-        ∙ ap (λ (q : List Vcpu). picks (idle_with never) 0 q (take (length vs) (laid 32 T (moment never) vs)))
+        ∙ ap (λ (q : List Vcpu). picks nobody_ready 0 q (take (length vs) (laid 32 T (moment never) vs)))
         (laid-front written (written no_tenant) 32 vs r.few)
-        ∙ ap (picks (idle_with never) 0 (map written vs)) (laid-front T (moment never) 32 vs r.few)
-        ∙ scan T never 0 vs (omega arith) (omega (arith, r.few)) calms
+        ∙ ap (picks nobody_ready 0 (map written vs)) (laid-front T (moment never) 32 vs r.few)
+        ∙ scan T never 0 vs (omega arith) calms
         (all_both (λ v c k t. k t ∙ ap moment (sym (next-head v c))) vs calms h) r.ranked r.distinct
       where
         calms : All Calm vs
         calms = calm now vs l r.each
 
         same : (p q : List Vcpu) (n m : ℕ) (ts us : List Moment) → p ≡ q → n ≡ m → ts ≡ us
-            → picks (idle_with never) 0 (take n p) (take n ts) ≡ picks (idle_with never) 0 (take m q) (take m us)
+            → picks nobody_ready 0 (take n p) (take n ts) ≡ picks nobody_ready 0 (take m q) (take m us)
         same p q n m ts us a b c = rw (a, b, c)
 
-    core-found : (rs : List Remembered) (m : Memory) → m ≡ memory_of rs → (g i : ℕ) (k : Pick) → k ≡ pick_for never 0 vs (choose vs)
-        → core_with p (moment now) ids (timer_for (moment now) k) m (total g) (total i) k.at n ≡ core_of (settled now vs rs g i)
-    unfolding core_of settled
-    core-found rs m y g i k e =
-        same p ids (timer_for (moment now) k) m k.at n f.places f.tunnels (ap (timer_for (moment now)) e ∙ timer-found) y
-        (ap (λ (x : Pick). x.at) e ∙ seat-found) f.count
-      where
-        same : (p : List Vcpu) (ids : List Tunnel) (t : Moment) (m : Memory) (a n : ℕ) → p ≡ places_of vs → ids ≡ ids_of vs
-            → t ≡ moment (timer_of (timer now vs (choose vs))) → m ≡ memory_of rs → a ≡ place_of (runs (choose vs)) vs → n ≡ length vs
-            → core_with p (moment now) ids t m (total g) (total i) a n
-            ≡ core_with (places_of vs) (moment now) (ids_of vs) (moment (timer_of (timer now vs (choose vs)))) (memory_of rs) (total g) (total i)
-            (place_of (runs (choose vs)) vs) (length vs)
-        same p ids t m a n u v w z x y = rw (u, v, w, z, x, y)
-
--- one place more of the scan, and its end
-pub scan_step : (k : Pick) (j n : ℕ) (p : List Vcpu) (ts : List Moment) (z : Vcpu) (y : Moment) → j < n → n ≤ 32 → length p ≡ 32
-    → length ts ≡ 32
-    → picks (picked_of k j (get_or p j z) (get_or ts j y)) (j + 1) (drop (j + 1) (take n p)) (drop (j + 1) (take n ts))
-    ≡ picks k j (drop j (take n p)) (drop j (take n ts))
-scan_step k j n p ts z y h g l m =
-    let i : j < length (take n p) = omega (arith, length-take n p) in
-    let o : j < length (take n ts) = omega (arith, length-take n ts) in
-    rw (
-      add-one,
-      drop-cons (take n p) j z i,
-      get_or-take n p j z h,
-      drop-cons (take n ts) j y o,
-      get_or-take n ts j y h,
-    )
-
-pub scan-end : (k : Pick) (j n : ℕ) (p : List Vcpu) (ts : List Moment) → j ≤ n → n ≤ j
-    → picks k j (drop j (take n p)) (drop j (take n ts)) ≡ k
-scan-end k j n p ts h g =
-    let l : length (take n p) ≤ j = omega (arith, length-take n p) in
-    ap (λ (q : List Vcpu). picks k j q (drop j (take n ts))) (drop_of_length-le (take n p) l)
-
--- the whole answer of an accepted call, and of a refused one
-pub turned-accepted : (c : Core) (now : Moment) (change : Change) → refusal (card c) now.0 (asked change) ≡ none
-    → turned c now change
-    ≡ answer_of (record { reply = ok (reported (card c) (call_of now change)); card = accepted (card c) (call_of now change) })
-unfolding turned turn
-turned-accepted c now change e = ap (λ (o : Option Row). answer_of (answered (card c) (call_of now change) o)) e
-
-pub turned-refused : (c : Core) (now : Moment) (change : Change) (x : Refusal) → SoundCore c
-    → refusal (card c) now.0 (asked change) ≡ some
-    (record { number = x.number; detail = x.detail })
-    → record { core = c; reply = No x } ≡ turned c now change
-unfolding turned turn
-turned-refused c now change x r e =
-    ap (λ (d : Core). record { core = d; reply = No x }) r.written
-    ∙ ap (λ (o : Option Row). answer_of (answered (card c) (call_of now change) o)) (sym e)
-
-pub answer-found : (now : Moment) (vs : List Tenant) → now.0 ≤ largest_time → Between now.0 vs
-    → (p : List Vcpu) (ids : List Tunnel) (n : ℕ) → Filled p ids n vs
-    → (rs : List Remembered) (m : Memory) → m ≡ memory_of rs
-    → (g : Total) (g' : ℕ) → g ≡ total g' → (i : Total) (i' : ℕ) → i ≡ total i'
+-- what an accepted call leaves in the fields is the rules' card written; `k` is what the scan found
+pub core-found : (now : Moment) (vs : List Tenant) → now.0 ≤ largest_time → Between now.0 vs
+    → (x : Roster) → Filled x.places x.ids x.n vs → (rs : List Remembered) → x.memory ≡ memory_of rs
+    → (gone : ℕ) → x.removed ≡ total gone → (i : Total) (idle : ℕ) → i ≡ total idle
     → (k : Pick) → k ≡ pick_for never 0 vs (choose vs)
-    → (t : Moment) → t ≡ timer_for now k → (h : Holder) → h ≡ holder_of ids k.at → (s : Timer) → s ≡ timer_said (timer_at t.0)
-    → (b : Amount) (x : ℕ) → b.0 ≡ x
-    → ◌≡◌ {A = Answer}
-    (record {
-      core = record { places = p; last = now; ids = ids; timer = t; memory = m; removed = g; idle = i; running = k.at; n = n };
-      reply = Done (record { time = now; run = h; usable = k.usable; timer = s; brought = b });
-    })
-    (answer_of (record { reply = ok (report x (settled now.0 vs rs g' i')); card = settled now.0 vs rs g' i' }))
-unfolding settled
-answer-found now vs l r p ids n f rs m y g g' ge i i' ie k e t te h he s se b x be =
-    same (record { places = p; last = now; ids = ids; timer = t; memory = m; removed = g; idle = i; running = k.at; n = n })
-    (core_of (settled now.0 vs rs g' i')) h
-    (holder_said (runs
-    (choose vs))) k.usable (amount (usable_of (choose vs))) s (timer_said (timer now.0 vs (choose vs)))
-    (as-told te ge ie ∙ core-found now.0 vs l r p ids n f rs m y g' i' k e)
-    (he ∙ ap (λ (x : Pick). holder_of ids x.at) e
-    ∙ ap (λ (i : List Tunnel). holder_of i (pick_for never 0 vs (choose vs)).at) f.tunnels
-    ∙ holder-found now.0 vs l r)
-    (ap (λ (x : Pick). x.usable) e ∙ usable-found now.0 vs l r)
-    (se ∙ ap (λ (x : Moment). timer_said (timer_at x.0)) (te ∙ ap (timer_for now) e) ∙ ap timer_said (timer-said now.0 vs l r))
-    (ap amount be)
+    → record { table = x; last = now; timer = timer_for now k; running = k.at; idle = i } ≡ core_of (settled now.0 vs rs gone idle)
+unfolding core_of settled
+core-found now vs l r x f rs m gone g i idle ie k e =
+    same x _ (timer_for now k) _ k.at _ i _ table
+    (ap (timer_for now) e ∙ timer-found now.0 vs l r)
+    (ap (λ (y : Pick). y.at) e ∙ seat-found now.0 vs l r) ie
   where
-    as-told : t ≡ timer_for now k → g ≡ total g' → i ≡ total i'
-        → ◌≡◌ {A = Core} (record { places = p; last = now; ids = ids; timer = t; memory = m; removed = g; idle = i; running = k.at; n = n })
-        (record {
-          places = p;
-          last = now;
-          ids = ids;
-          timer = timer_for now k;
-          memory = m;
-          removed = total g';
-          idle = total i';
-          running = k.at;
-          n = n;
-        })
-    as-told u v w = rw (u, v, w)
+    table : x ≡ table_of vs rs gone
+    table = written-as x.places _ x.ids _ x.memory _ x.removed _ x.n _ f.places f.tunnels m g f.count
+      where
+        written-as : (p p' : List Vcpu) (ids ids' : List Tunnel) (y y' : Memory) (g g' : Total) (n n' : ℕ) → p ≡ p' → ids ≡ ids'
+            → y ≡ y' → g ≡ g' → n ≡ n'
+            → ◌≡◌ {A = Roster} (record { places = p; ids = ids; memory = y; removed = g; n = n })
+            (record { places = p'; ids = ids'; memory = y'; removed = g'; n = n' })
+        written-as p p' ids ids' y y' g g' n n' a b c d e = rw (a, b, c, d, e)
 
-    same : (c c' : Core) (h h' : Holder) (u u' : Amount) (s s' : Timer) → c ≡ c' → h ≡ h' → u ≡ u' → s ≡ s' → b ≡ amount x
-        → ◌≡◌ {A = Answer} (record { core = c; reply = Done (record { time = now; run = h; usable = u; timer = s; brought = b }) })
-        (record { core = c'; reply = Done (record { time = now; run = h'; usable = u'; timer = s'; brought = amount x }) })
-    same c c' h h' u u' s s' p q v w z = rw (p, q, v, w, z)
+    same : (x x' : Roster) (t t' : Opt Moment) (a a' : Opt ℕ) (i i' : Total) → x ≡ x' → t ≡ t' → a ≡ a' → i ≡ i'
+        → ◌≡◌ {A = Inside} (record { table = x; last = now; timer = t; running = a; idle = i })
+        (record { table = x'; last = now; timer = t'; running = a'; idle = i' })
+    same x x' t t' a a' i i' p q u v = rw (p, q, u, v)
+
+-- and what it reports, on paper, is the rules' report
+pub report-found : (now : Moment) (vs : List Tenant) → now.0 ≤ largest_time → Between now.0 vs
+    → (ids : List Tunnel) → ids ≡ ids_of vs → (rs : List Remembered) (gone idle : ℕ)
+    → (k : Pick) → k ≡ pick_for never 0 vs (choose vs) → (brought : ℕ)
+    → report_said (report brought (settled now.0 vs rs gone idle))
+    ≡ record { time = now; run = holder_of ids k.at; usable = k.usable; timer = timer_for now k; brought = amount brought }
+unfolding settled
+report-found now vs l r ids i rs gone idle k e brought =
+    same _ _ _ _ _ _
+    (sym (ap (λ (y : List Tunnel). holder_of y k.at) i ∙ ap (λ (y : Pick). holder_of (ids_of vs) y.at) e ∙ holder-found now.0 vs l r))
+    (sym (ap (λ (y : Pick). y.usable) e ∙ usable-found now.0 vs l r))
+    (sym (ap (timer_for now) e ∙ timer-found now.0 vs l r))
+  where
+    same : (h h' : Opt Tunnel) (u u' : Amount) (t t' : Opt Moment) → h ≡ h' → u ≡ u' → t ≡ t'
+        → ◌≡◌ {A = Report} (record { time = now; run = h; usable = u; timer = t; brought = amount brought })
+        (record { time = now; run = h'; usable = u'; timer = t'; brought = amount brought })
+    same h h' u u' t t' p q v = rw (p, q, v)
 
 -- the empty card
 empty-between : Between 0 []
@@ -347,7 +275,3 @@ empty-between = record { few = omega arith; each = tt; distinct = tt; ranked = t
 pub empty-shown : card (core_of empty) ≡ empty
 unfolding settled timer
 empty-shown = shown-again 0 [] (omega arith) empty-between [] 0 0 (omega arith)
-
-pub empty-sound : SoundCore (core_of empty)
-unfolding settled timer
-empty-sound = core-sound 0 [] (omega arith) empty-between [] 0 0 (omega arith) [] refl

@@ -13,7 +13,7 @@ use Rattle.units.specs.Units.{moment, tunnel, total, together}
 use Rattle.units.specs.declared.Total.{Total}
 use Rattle.units.specs.declared.Moment.{Moment}
 use Rattle.units.specs.declared.Tunnel.{Tunnel}
-use Rattle.rules.specs.Limits.{largest_period, largest_time}
+use Rattle.rules.specs.Limits.{largest_time}
 use Rattle.rules.specs.Lists.{keep, any, All}
 use Rattle.rules.specs.Vcpu.{admitted, named}
 use Rattle.rules.specs.Vcpu.{Description as Terms}
@@ -34,14 +34,16 @@ use Rattle.turns.specs.Laid.{laid}
 use Rattle.turns.specs.Written.{never, nobody, tunnel_of, written, no_tenant, place, memory_of}
 use Rattle.turns.proofs.Invariant.{Ranked, Distinct, terms_of, Listed}
 use Rattle.turns.specs.Steps.{usable_as, runnable_as}
-use Rattle.turns.specs.Places.{seek, named_at, spot_in, inserted, removed}
+use Rattle.turns.specs.Places.{seek, on_table, named_at, spot_in, inserted, removed, BlankFrom}
+use Rattle.turns.specs.declared.Roster.{Roster}
+use Rattle.std.specs.Prelude.{Option as Opt, Some}
 use Rattle.turns.specs.Remembered.{leaving_of}
 use Rattle.turns.specs.Calls.{described, asked}
-use Rattle.turns.proofs.Laid.{cut_at, laid-get, laid-put, laid-cut}
+use Rattle.turns.proofs.Laid.{cut_at, laid-get, laid-put, laid-cut, laid-blank}
 use Rattle.turns.proofs.Written.{kind-left}
 use Rattle.turns.proofs.Places.{place-there, find-there, named_set, removed-cut, spot_of, spot_most, spot_laid, placed-put}
 use Rattle.turns.proofs.Ranked.{all-get, return-terms, named-terms, placed-ranked, keep-ranked}
-use Rattle.turns.proofs.Rows.{ids_of, there, named-seek}
+use Rattle.turns.proofs.Rows.{there, named-seek}
 use Rattle.rules.specs.Accounts.{all_held}
 use Rattle.rules.proofs.Lists.{sum_among}
 use Rattle.rules.proofs.Named.{named-says, found}
@@ -50,10 +52,12 @@ use Rattle.rules.proofs.Memory.{leaves-within}
 use Rattle.rules.proofs.Accepted.{Admits, admits}
 use Rattle.rules.proofs.Advance.{rows-stepped}
 use Rattle.rules.proofs.Changed.{length-placed}
-use Rattle.turns.proofs.Stage.{Filled, filled-set}
+use Rattle.turns.proofs.Stage.{filled-set}
 use Rattle.turns.proofs.Remembered.{leaving-written}
 use Rattle.turns.proofs.Settle.{calm-one}
 use Rattle.turns.proofs.Heard.{said_of, times_of, heard-marked, heard-new}
+use Rattle.turns.specs.Tenants.{Filled, Blank, Removable, Changeable, record_at, marked, changed_table, changed_times}
+use Rattle.turns.specs.Written.{ids_of}
 
 -- what depends on the terms alone
 abbrev on_terms : ℕ → List Terms → Bool
@@ -95,9 +99,6 @@ module _ (p : List Vcpu) (ids : List Tunnel) (n : ℕ) (vs : List Tenant) (f : F
     spot_is : spot_in (described d) n p ids ≡ spot_of new vs
     spot_is =
         rw (f.places, f.tunnels, f.count) (spot_laid new (written no_tenant) (tunnel nobody) 32 vs r.few)
-
-    spot-fits : spot_in (described d) n p ids ≤ 32
-    spot-fits = omega (arith, spot_is, spot_most new vs, r.few)
 
     room : length vs < 32
     room = omega (arith, q.room)
@@ -191,70 +192,13 @@ module _ (k : Card) (now : ℕ) where
       go (Remove t) m s = keep-ranked (λ v. not (named t.0 v)) (after_return k now) s
       go Tick m s = s
 
--- the table: its places, its identifiers and its count; and beside it who is remembered, the ticks of removed tenants, and the times that
--- step 2 reported
-pub record Table : Type 0 where
-  pub places : List Vcpu
-  pub ids : List Tunnel
-  pub n : ℕ
-  pub memory : Memory
-  pub removed : Total
-  pub next : List Moment
-
--- what each change makes of it; `at` is the place that the call names, and `z` what a read past the end would give
-abbrev marked : Bool → ℕ → Vcpu → Table → Table
-marked b at z x =
-    record {
-      places = set x.places at (runnable_as (get_or x.places at z) b);
-      ids = x.ids;
-      n = x.n;
-      memory = x.memory;
-      removed = x.removed;
-      next = x.next;
-    }
-
-abbrev pub changed_table : ℕ → Change → ℕ → Vcpu → Table → Table
-changed_table now (Admit d) at z x =
-    record {
-      places = inserted (spot_in (described d) x.n x.places x.ids) (written (admitted now (described d))) x.places;
-      ids = inserted (spot_in (described d) x.n x.places x.ids) d.tunnel x.ids;
-      n = x.n + 1;
-      memory = x.memory;
-      removed = x.removed;
-      next = inserted (spot_in (described d) x.n x.places x.ids) (moment never) x.next;
-    }
-changed_table now (Wake t) at z x = marked true at z x
-changed_table now (Block t) at z x = marked false at z x
-changed_table now (Remove t) at z x =
-    record {
-      places = removed at (written no_tenant) x.places;
-      ids = removed at (tunnel nobody) x.ids;
-      n = x.n - 1;
-      memory = leaving_of x.memory t (get_or x.places at z);
-      removed = together x.removed (get_or x.places at z).held;
-      next = removed at (moment never) x.next;
-    }
-changed_table now Tick at z x = x
-
--- what it asks of the place, and of the room to remember
-pub record Removable (at : ℕ) (z : Vcpu) (x : Table) : Type 0 where
-  pub inside : at < 32
-  pub one : 1 ≤ x.n
-  pub room : x.memory.count < 32
-  pub short : (get_or x.places at z).count ≤ 8
-
-abbrev pub Changeable : Change → ℕ → Vcpu → Table → Type 0
-Changeable (Admit d) at z x = (spot_in (described d) x.n x.places x.ids ≤ 32) × (d.period.0 ≤ largest_period)
-Changeable (Wake t) at z x = at < 32
-Changeable (Block t) at z x = at < 32
-Changeable (Remove t) at z x = Removable at z x
-Changeable Tick at z x = Unit
-
-pub record FilledBy (x : Table) (vs : List Tenant) (rs : List Remembered) (ts : List Told) (gone : ℕ) : Type 0 where
-  pub table : Filled x.places x.ids x.n vs
-  pub memory : x.memory ≡ memory_of rs
-  pub removed : x.removed ≡ total gone
-  pub next : x.next ≡ times_of ts vs
+-- the table and the times reported are the lists of the rules, written
+pub record FilledBy (x : Roster) (next : List Moment) (vs : List Tenant) (rs : List Remembered) (ts : List Told) (gone : ℕ) : Type 0
+  where
+    pub table : Filled x.places x.ids x.n vs
+    pub memory : x.memory ≡ memory_of rs
+    pub removed : x.removed ≡ total gone
+    pub times : next ≡ times_of ts vs
 
 -- an accepted call, after steps 1 and 2
 pub record Stepped (k : Card) (now : ℕ) : Type 0 where
@@ -266,132 +210,153 @@ pub record Stepped (k : Card) (now : ℕ) : Type 0 where
   pub within : all_held (after_return k now) + k.removed ≤ now
 
 -- .. finds its place, and leaves the rules' lists after the change, written
-module _ (k : Card) (now : ℕ) (l : Stepped k now) (x : Table)
-    (f : FilledBy x (after_return k now) (kept now k.remembered) (told_by k now) k.removed) where
+module _ (k : Card) (now : Moment) (l : Stepped k now.0) (x : Roster) (next : List Moment)
+    (f : FilledBy x next (after_return k now.0) (kept now.0 k.remembered) (told_by k now.0) k.removed) where
   abbrev vs : List Tenant
-  vs = after_return k now
+  vs = after_return k now.0
 
   abbrev rs : List Remembered
-  rs = kept now k.remembered
+  rs = kept now.0 k.remembered
 
   r : Listed vs
-  r = return-listed k now l.listed
+  r = return-listed k now.0 l.listed
 
   none_more : x.removed ≡ total (k.removed + 0)
   none_more = f.removed ∙ ap total (omega arith)
 
-  at_place : (t at : ℕ) → at ≡ seek t (ids_of k.vcpus) → naming_rows k.vcpus t ≡ none → at ≡ place t vs
-  at_place t at e m = e ∙ named-seek k.vcpus l.listed.few t m ∙ sym (return-place k now t)
+  blank : Blank x next
+  blank =
+      record {
+        few = omega (arith, f.table.count, r.few);
+        places = vacant written (written no_tenant) x.places f.table.places;
+        ids = vacant tunnel_of (tunnel nobody) x.ids f.table.tunnels;
+        times = vacant _ (moment never) next f.times;
+      }
+    where
+      vacant : {B : Type 0} (g : Tenant → B) (z : B) (l : List B) → l ≡ laid 32 g z vs → BlankFrom x.n z l
+      vacant g z l e = rw (e, f.table.count) (laid-blank g z 32 (32 - length vs) vs (omega (arith, r.few)))
 
-  -- the record at that place
-  module _ (t at : ℕ) (e : at ≡ seek t (ids_of k.vcpus)) (m : naming_rows k.vcpus t ≡ none) where
+  -- the one that the call names, at its place
+  module _ (t : ℕ) (m : naming_rows k.vcpus t ≡ none) where
+    at_place : on_table (seek t (ids_of k.vcpus)) ≡ Some (place t vs)
+    at_place = named-seek k.vcpus l.listed.few t m ∙ ap Some (sym (return-place k now.0 t))
+
     abbrev there-now : Tenant
     there-now = get_or vs (place t vs) no_tenant
 
-    read : (z : Vcpu) → get_or x.places at z ≡ written there-now
-    read z = mark-read x.places x.ids x.n vs f.table r t at (at_place t at e m) (named-place k now t m) z
+    read : record_at x (place t vs) ≡ written there-now
+    read = mark-read x.places x.ids x.n vs f.table r t (place t vs) refl (named-place k now.0 t m) (written no_tenant)
 
-    sound-there : Sound now there-now
-    sound-there = all-get (Sound now) vs (place t vs) no_tenant l.sound (named-place k now t m)
+    sound-there : Sound now.0 there-now
+    sound-there = all-get (Sound now.0) vs (place t vs) no_tenant l.sound (named-place k now.0 t m)
 
-    small : at < x.n
-    small = omega (arith, at_place t at e m, named-place k now t m, f.table.count)
+    small : place t vs < x.n
+    small = omega (arith, named-place k now.0 t m, f.table.count)
 
-    at_small : at < 32
+    at_small : place t vs < 32
     at_small = omega (arith, small, f.table.count, r.few)
 
-    marks : (b : Bool) (z : Vcpu) → FilledBy (marked b at z x) (to_named t (set_runnable b) vs) (rs ++ []) (told_by k now) (k.removed + 0)
-    marks b z =
+    marks : (b : Bool) → FilledBy (marked b (Some (place t vs)) x) next (to_named t (set_runnable b) vs) (rs ++ []) (told_by k now.0)
+        (k.removed + 0)
+    marks b =
         record {
           table =
-              subst (λ (v : Vcpu). Filled (set x.places at v) x.ids x.n (to_named t (set_runnable b) vs))
-              (sym (ap (λ (v : Vcpu). runnable_as v b) (read z) ∙ mark_written there-now b))
-              (mark-filled x.places x.ids x.n vs f.table r t at (at_place t at e m) (named-place k now t m) b z);
+              subst (λ (v : Vcpu). Filled (set x.places (place t vs) v) x.ids x.n (to_named t (set_runnable b) vs))
+              (sym (ap (λ (v : Vcpu). runnable_as v b) read ∙ mark_written there-now b))
+              (mark-filled x.places x.ids x.n vs f.table r t (place t vs) refl (named-place k now.0 t m) b (written no_tenant));
           memory = f.memory ∙ ap memory_of (sym (append-nil rs));
           removed = none_more;
-          next = f.next ∙ heard-marked (told_by k now) t b vs;
+          times = f.times ∙ heard-marked (told_by k now.0) t b vs;
         }
 
     room-left : length rs < 32
-    room-left = omega (arith, l.few, return-length k now, named-place k now t m)
+    room-left = omega (arith, l.few, return-length k now.0, named-place k now.0 t m)
 
-    removable : (z : Vcpu) → Removable at z x
+    removable : Removable (place t vs) x next
     unfolding written
-    removable z =
+    removable =
         record {
-          inside = at_small;
-          one = omega (arith, small);
+          blank = blank;
+          inside = small;
           room = omega (arith, ap (λ (y : Memory). y.count) f.memory, room-left);
-          short = subst (λ (v : Vcpu). v.count ≤ 8) (sym (read z)) sound-there.few;
+          short = subst (λ (v : Vcpu). v.count ≤ 8) (sym read) sound-there.few;
         }
 
   -- who is removed is remembered
-  module _ (t : Tunnel) (at : ℕ) (e : at ≡ seek t.0 (ids_of k.vcpus)) (m : naming_rows k.vcpus t.0 ≡ none) where
+  module _ (t : Tunnel) (m : naming_rows k.vcpus t.0 ≡ none) where
     abbrev gone : Tenant
-    gone = there-now t.0 at e m
+    gone = there-now t.0 m
 
     is_found : find t.0 vs ≡ some gone
-    is_found = find-there t.0 vs (named-there k now t.0 m)
+    is_found = find-there t.0 vs (named-there k now.0 t.0 m)
 
     its_name : gone.terms.tunnel ≡ t.0
     its_name = named-says t.0 gone (found t.0 vs gone is_found).1
 
     -- .. and what it held is added to the ticks of removed tenants
-    hands_over : (z : Vcpu) → together x.removed (get_or x.places at z).held ≡ total (k.removed + held_of (find t.0 vs))
+    hands_over : together x.removed (record_at x (place t.0 vs)).held ≡ total (k.removed + held_of (find t.0 vs))
     unfolding written
-    hands_over z =
-        ap (λ (v : Vcpu). together x.removed v.held) (read t.0 at e m z)
+    hands_over =
+        ap (λ (v : Vcpu). together x.removed v.held) (read t.0 m)
         ∙ ap (λ (g : Total). together g (total gone.held_total)) f.removed
         ∙ ap total (omega (arith, l.within, sum_among (λ v. v.held_total) vs gone (found t.0 vs gone is_found).0))
         ∙ ap (λ (o : Option Tenant). total (k.removed + held_of o)) (sym is_found)
 
-    left : (z : Vcpu) → leaving_of x.memory t (get_or x.places at z) ≡ memory_of (rs ++ left_by (find t.0 vs))
-    left z =
-        ap (λ (y : Memory). leaving_of y t (get_or x.places at z)) f.memory
-        ∙ ap (leaving_of (memory_of rs) t) (read t.0 at e m z)
-        ∙ leaving-written gone (calm-one now gone l.time s) s.few rs t (room-left t.0 at e m)
-        (λ u g. omega (arith, leaves-within now gone s u g, s.range.period-high, l.time))
+    left : leaving_of x.memory t (record_at x (place t.0 vs)) ≡ memory_of (rs ++ left_by (find t.0 vs))
+    left =
+        ap (λ (y : Memory). leaving_of y t (record_at x (place t.0 vs))) f.memory
+        ∙ ap (leaving_of (memory_of rs) t) (read t.0 m)
+        ∙ leaving-written gone (calm-one now.0 gone l.time s) s.few rs t (room-left t.0 m)
+        (λ u g. omega (arith, leaves-within now.0 gone s u g, s.range.period-high, l.time))
         ∙ ap (λ (n : ℕ). memory_of (rs ++ remembering n (leaves_until gone))) (sym its_name)
         ∙ ap (λ (o : Option Tenant). memory_of (rs ++ left_by o)) (sym is_found)
       where
-        s : Sound now gone
-        s = sound-there t.0 at e m
+        s : Sound now.0 gone
+        s = sound-there t.0 m
 
-  pub changeable : (change : Change) (at : ℕ) (z : Vcpu) → at ≡ named_at (ids_of k.vcpus) change
-      → call_rows k.vcpus rs (asked change) ≡ none → Changeable change at z x
-  changeable (Admit d) at z e m =
-      let q : Admits vs rs (described d) = admits-after k now rs d m in
-      (spot-fits x.places x.ids x.n vs f.table r now rs d q, q.range.period-high)
-  changeable (Wake t) at z e m = at_small t.0 at e m
-  changeable (Block t) at z e m = at_small t.0 at e m
-  changeable (Remove t) at z e m = removable t.0 at e m z
-  changeable Tick at z e m = tt
-
-  pub change-filled : (change : Change) (at : ℕ) (z : Vcpu) → at ≡ named_at (ids_of k.vcpus) change
-      → call_rows k.vcpus rs (asked change) ≡ none
-      → FilledBy (changed_table now change at z x) (changeRule now (asked change) vs) (rs ++ leaving (asked change) vs) (told_by k now)
-      (k.removed + handed_over (asked change) vs)
-  change-filled (Admit d) at z e m =
-      let q = admits-after k now rs d m in
+  pub changeable : (change : Change) (at : Opt ℕ) → at ≡ on_table (named_at (ids_of k.vcpus) change)
+      → call_rows k.vcpus rs (asked change) ≡ none → Changeable now change at x next
+  changeable (Admit d) at e m =
+      let q : Admits vs rs (described d) = admits-after k now.0 rs d m in
       record {
-        table = admit-filled x.places x.ids x.n vs f.table r now rs d q;
+        blank = blank;
+        few = omega (arith, room x.places x.ids x.n vs f.table r now.0 rs d q, f.table.count);
+        in_time = omega (arith, q.range.period-high, l.time);
+        known = q.range.kind-high;
+      }
+  changeable (Wake t) at e m = rw (e ∙ at_place t.0 m) (at_small t.0 m)
+  changeable (Block t) at e m = rw (e ∙ at_place t.0 m) (at_small t.0 m)
+  changeable (Remove t) at e m = rw (e ∙ at_place t.0 m) (removable t.0 m)
+  changeable Tick at e m = tt
+
+  abbrev Left : Change → Opt ℕ → Type 0
+  Left change at =
+      FilledBy (changed_table now change at x) (changed_times change at x next) (changeRule now.0 (asked change) vs)
+      (rs ++ leaving (asked change) vs) (told_by k now.0) (k.removed + handed_over (asked change) vs)
+
+  pub change-filled : (change : Change) (at : Opt ℕ) → at ≡ on_table (named_at (ids_of k.vcpus) change)
+      → call_rows k.vcpus rs (asked change) ≡ none → Left change at
+  change-filled (Admit d) at e m =
+      let q = admits-after k now.0 rs d m in
+      record {
+        table = admit-filled x.places x.ids x.n vs f.table r now.0 rs d q;
         memory = f.memory ∙ ap memory_of (sym (append-nil rs));
         removed = none_more;
-        next =
-            put-filled x.places x.ids x.n vs f.table r now rs d q (said_of (told_by k now)) (moment never) (moment never)
-            x.next f.next (sym (heard-new now (after_charge k now) (admitted now (described d)) q.not_there));
+        times =
+            put-filled x.places x.ids x.n vs f.table r now.0 rs d q (said_of (told_by k now.0)) (moment never) (moment never)
+            next f.times (sym (heard-new now.0 (after_charge k now.0) (admitted now.0 (described d)) q.not_there));
       }
-  change-filled (Wake t) at z e m = marks t.0 at e m true z
-  change-filled (Block t) at z e m = marks t.0 at e m false z
-  change-filled (Remove t) at z e m =
-      record {
-        table =
-            remove-filled x.places x.ids x.n vs f.table r t.0 at (at_place t.0 at e m) (named-place k now t.0 m);
-        memory = left t at e m z;
-        removed = hands_over t at e m z;
-        next =
-            cut-filled x.places x.ids x.n vs f.table r t.0 at (at_place t.0 at e m) (named-place k now t.0 m)
-            (said_of (told_by k now)) (moment never) x.next f.next;
-      }
-  change-filled Tick at z e m =
-      record { table = f.table; memory = f.memory ∙ ap memory_of (sym (append-nil rs)); removed = none_more; next = f.next }
+  change-filled (Wake t) at e m = subst (Left (Wake t)) (sym (e ∙ at_place t.0 m)) (marks t.0 m true)
+  change-filled (Block t) at e m = subst (Left (Block t)) (sym (e ∙ at_place t.0 m)) (marks t.0 m false)
+  change-filled (Remove t) at e m =
+      subst (Left (Remove t)) (sym (e ∙ at_place t.0 m))
+      (record {
+        table = remove-filled x.places x.ids x.n vs f.table r t.0 (place t.0 vs) refl (named-place k now.0 t.0 m);
+        memory = left t m;
+        removed = hands_over t m;
+        times =
+            cut-filled x.places x.ids x.n vs f.table r t.0 (place t.0 vs) refl (named-place k now.0 t.0 m)
+            (said_of (told_by k now.0)) (moment never) next f.times;
+      })
+  change-filled Tick at e m =
+      record { table = f.table; memory = f.memory ∙ ap memory_of (sym (append-nil rs)); removed = none_more; times = f.times }

@@ -1,118 +1,119 @@
--- One step of each loop over the table: a search looks one place further, a shift moves one place more.
+-- One step of each search over the table, and the shifts of a table.
 -- Assumes nothing.
 use Prim.Native.Nat.{ℕ, zero, suc, ◌+◌, ◌-◌, ◌≤◌, ◌<◌}
 use mathlib.Core.Path.{◌≡◌, refl, ap, sym, ◌∙◌, subst}
-use mathlib.Core.Bool.{true, false}
-use mathlib.Core.List.{List, [], ◌∷◌, ◌++◌, append_assoc, append-nil}
+use mathlib.Core.Bool.{Bool, true, false, cond, not, ◌||◌, ◌&&◌}
+use mathlib.Core.List.{List, [], ◌∷◌, ◌++◌}
 use native.Mathlib.Omega.{arith}
 use native.Mathlib.Numerals.{add-one}
-use lib.Dec.{eqb}
-use lib.ListN.{length, take, drop, get_or, set, length-set, drop_of_length-le}
-use lib.Seq.{drop-cons, take-suc-set, drop-set-lt, take_all, set_split}
-use Rattle.units.specs.Units.{tunnel}
+use lib.Dec.{eqb, ltb}
+use borrow.Author.Tests.{ltb-false}
+use lib.ListN.{replicate, length, take, drop, get_or, set}
+use lib.Seq.{paste}
+use Rattle.std.specs.List.{position, position_or_len, zip}
+use Rattle.std.specs.Prelude.{Some, None, unwrap_or}
+use Rattle.std.proofs.lemmas.List.Recursion.{is_position_or_len}
+use Rattle.std.proofs.lemmas.List.Sums.{prefix_len-le-length}
 use Rattle.units.specs.declared.Tunnel.{Tunnel}
 use Rattle.rules.specs.Vcpu.{more_urgent}
 use Rattle.rules.specs.Vcpu.{Description as Terms}
 use Rattle.turns.specs.declared.Vcpu.{Vcpu}
-use Rattle.turns.specs.Places.{seek, nearer_of, least_in, urgency, spot_in, inserted, removed}
+use Rattle.turns.specs.Places.{seek, on_table, spot_in, inserted, removed}
 
-module _ (t : ℕ) (l : List Tunnel) (k : ℕ) (h : k < length l) where
-  pub seek-here : eqb (get_or l k (tunnel 0)).0 t ≡ true → seek t (drop k l) ≡ 0
-  seek-here e = rw (drop-cons l k (tunnel 0), e)
+-- the place sought is a position
+pub seek_found : (t : ℕ) (l : List Tunnel) → length l ≡ 32 → position (λ (x : Tunnel). eqb x.0 t) l ≡ on_table (seek t l)
+seek_found t l h =
+    let e = is_position_or_len (seek t) (λ (x : Tunnel). eqb x.0 t) refl (λ x xs. ap (cond (eqb x.0 t) 0) (omega arith)) l in
+    rw (sym e, h) refl
 
-  pub seek_on : eqb (get_or l k (tunnel 0)).0 t ≡ false → k + seek t (drop k l) ≡ k + 1 + seek t (drop (k + 1) l)
-  seek_on e = rw (drop-cons l k (tunnel 0), e, add-one) (omega arith)
+-- the newcomer's place is a position among the first n, or n
+abbrev below_it : Terms → Vcpu × Tunnel → Bool
+below_it d x = ltb d.priority x.0.priority || (eqb d.priority x.0.priority && ltb d.tunnel x.1.0)
 
-module _ (d : Terms) (n : ℕ) (vs : List Vcpu) (ts : List Tunnel) (z : Vcpu) (k : ℕ) (i : k < n) (h : k < length vs)
-    (g : k < length ts) where
-  left : n - k ≡ suc (n - (k + 1))
-  left = omega arith
+spot-position : (d : Terms) (n : ℕ) (vs : List Vcpu) (ts : List Tunnel) → n ≤ length vs → n ≤ length ts
+    → (length (zip (take n vs) (take n ts)) ≡ n) × (position_or_len (below_it d) (zip (take n vs) (take n ts)) ≡ spot_in d n vs ts)
+unfolding more_urgent
+spot-position d zero vs ts h g = (refl, refl)
+spot-position d (suc n) [] ts h g = absurd (omega arith)
+spot-position d (suc n) (v ∷ vs) [] h g = absurd (omega arith)
+spot-position d (suc n) (v ∷ vs) (t ∷ ts) h g =
+    let i = spot-position d n vs ts (omega arith) (omega arith) in (omega (arith, i.0), go (below_it d (v, t)) i.1)
+  where
+    go : (b : Bool) {x y : ℕ} → x ≡ y → cond (not b) (1 + x) 0 ≡ cond b 0 (suc y)
+    go true e = refl
+    go false e = omega (arith, e)
 
-  pub spot_here : more_urgent d (urgency (get_or vs k z).priority (get_or ts k (tunnel 0)).0) ≡ true
-      → spot_in d (n - k) (drop k vs) (drop k ts) ≡ 0
-  spot_here e = rw (left, drop-cons vs k z, drop-cons ts k (tunnel 0), e)
+pub spot-found : (d : Terms) (n : ℕ) (vs : List Vcpu) (ts : List Tunnel) → n ≤ length vs → n ≤ length ts
+    → unwrap_or (position (below_it d) (zip (take n vs) (take n ts))) n ≡ spot_in d n vs ts
+spot-found d n vs ts h g =
+    let i = spot-position d n vs ts h g in
+    let l = prefix_len-le-length (λ x. not (below_it d x)) (zip (take n vs) (take n ts)) in
+    rw (i.1, i.0) (go (ltb (spot_in d n vs ts) n) refl (omega (arith, l, i.0, i.1)))
+  where
+    go : (b : Bool) {x : ℕ} → ltb x n ≡ b → x ≤ n → unwrap_or (cond b (Some x) None) n ≡ x
+    go true e k = refl
+    go false e k = omega (arith, ltb-false _ _ e)
 
-  pub spot_on : more_urgent d (urgency (get_or vs k z).priority (get_or ts k (tunnel 0)).0) ≡ false
-      → k + spot_in d (n - k) (drop k vs) (drop k ts) ≡ k + 1 + spot_in d (n - (k + 1)) (drop (k + 1) vs) (drop (k + 1) ts)
-  spot_on e = rw (left, drop-cons vs k z, drop-cons ts k (tunnel 0), e, add-one) (omega arith)
-
+-- the two shifts of a table, as `copy_within` and one write make them of the places in use; the others hold a filler `z`
 module _ {A : Type 0} where
-  pub insert_start : (at : ℕ) (y : A) (l : List A) → take at l ++ inserted 0 y (drop at l) ≡ inserted at y l
-  insert_start zero y l = refl
-  insert_start (suc k) y [] = refl
-  insert_start (suc k) y (x ∷ l) = ap (λ (r : List A). x ∷ r) (insert_start k y l)
+  -- a filler put in front of fillers
+  pushed_blank : (f : ℕ) (z y : A) (l : List A) → y ∷ l ≡ replicate f z → l ≡ inserted 0 y l
+  pushed_blank f z y [] e = refl
+  pushed_blank zero z y (x ∷ l) e = absurd (omega (arith, ap length e))
+  pushed_blank (suc zero) z y (x ∷ l) e = absurd (omega (arith, ap length e))
+  pushed_blank (suc (suc f)) z y (x ∷ l) e =
+      let a : y ≡ z = ap (λ (r : List A). get_or r 0 y) e in
+      let b : x ≡ z = ap (λ (r : List A). get_or r 1 y) e in
+      ap (λ (w : A). w ∷ l) (b ∙ sym a) ∙ ap (λ (r : List A). y ∷ r) (pushed_blank (suc f) z x l (ap (drop 1) e))
 
-  pub insert_step : (l : List A) (k : ℕ) (y d : A) → k < length l
-      → take (k + 1) (set l k y) ++ inserted 0 (get_or l k d) (drop (k + 1) (set l k y)) ≡ take k l ++ inserted 0 y (drop k l)
-  insert_step l k y d h =
-      rw (add-one, take-suc-set l k y h, drop-set-lt (suc k) l k y (omega arith), drop-cons l k d h)
-      (append_assoc (take k l) (y ∷ []) (inserted 0 (get_or l k d) (drop (suc k) l)))
+  pushed : (m f : ℕ) (z y : A) (l : List A) → m ≤ length l → drop m (y ∷ l) ≡ replicate f z → take m (y ∷ l) ++ drop m l ≡ inserted 0 y l
+  pushed zero f z y l h e = pushed_blank f z y l e
+  pushed (suc m) f z y [] h e = absurd (omega arith)
+  pushed (suc m) f z y (x ∷ l) h e = ap (λ (r : List A). y ∷ r) (pushed m f z x l (omega arith) e)
 
-  pub insert_end : (l : List A) (k : ℕ) (y : A) → length l ≤ k → take k l ++ inserted 0 y (drop k l) ≡ l
-  insert_end l k y h = rw (take_all k l h, drop_of_length-le l h) (append-nil l)
+  put_in_at : (at m n e f : ℕ) (z y : A) (l : List A) → n ≡ at + m → e ≡ suc (at + m) → n < length l → drop n l ≡ replicate f z
+      → set (take (suc at) l ++ take m (drop at l) ++ drop e l) at y ≡ inserted at y l
+  put_in_at at m n e f z y [] g i h b = absurd (omega arith)
+  put_in_at at m n zero f z y (x ∷ l) g i h b = absurd (omega arith)
+  put_in_at zero m n (suc e) f z y (x ∷ l) g i h b =
+      let j : e ≡ m = omega arith in
+      let k : n ≡ m = omega arith in
+      rw j (ap (λ (r : List A). y ∷ r) (pushed m f z x l (omega arith) (rw k at b)))
+  put_in_at (suc k) m zero (suc e) f z y (x ∷ l) g i h b = absurd (omega arith)
+  put_in_at (suc k) m (suc n) (suc e) f z y (x ∷ l) g i h b =
+      ap (λ (r : List A). x ∷ r) (put_in_at k m n e f z y l (omega arith) (omega arith) (omega arith) b)
 
-  pub remove-start : (at : ℕ) (z : A) (l : List A) → at < length l → take at l ++ (drop (suc at) l ++ z ∷ []) ≡ removed at z l
-  remove-start zero z [] h = absurd (omega arith)
-  remove-start zero z (x ∷ l) h = refl
-  remove-start (suc k) z [] h = absurd (omega arith)
-  remove-start (suc k) z (x ∷ l) h = ap (λ (r : List A). x ∷ r) (remove-start k z l (omega arith))
+  pub put_in : (at n f : ℕ) (z y : A) (l : List A) → at ≤ n → n < length l → drop n l ≡ replicate f z
+      → set (paste l (at + 1) (drop at l) (n - at)) at y ≡ inserted at y l
+  put_in at n f z y l h g b =
+      rw (add-one at) (put_in_at at (n - at) n (suc at + (n - at)) f z y l (omega arith) (omega arith) g b)
 
-  pub remove-step : (l : List A) (k : ℕ) (z d : A) → k + 1 < length l
-      → take (k + 1) (set l k (get_or l (k + 1) d)) ++ (drop (suc (k + 1)) (set l k (get_or l (k + 1) d)) ++ z ∷ [])
-      ≡ take k l ++ (drop (suc k) l ++ z ∷ [])
-  remove-step l k z d h = go (get_or l (suc k) d) refl
-    where
-      go : (x : A) → get_or l (suc k) d ≡ x
-          → take (k + 1) (set l k (get_or l (k + 1) d)) ++ (drop (suc (k + 1)) (set l k (get_or l (k + 1) d)) ++ z ∷ [])
-          ≡ take k l ++ (drop (suc k) l ++ z ∷ [])
-      go x e =
-          rw (
-            add-one,
-            e,
-            take-suc-set l k x (omega arith),
-            drop-set-lt (suc (suc k)) l k x (omega arith),
-            drop-cons l (suc k) d
-                (omega arith),
-            e,
-          )
-          (append_assoc (take k l) (x ∷ []) (drop (suc (suc k)) l ++ z ∷ []))
+  -- a filler behind fillers
+  ended_blank : (f : ℕ) (z : A) → z ∷ replicate f z ≡ replicate f z ++ z ∷ []
+  ended_blank zero z = refl
+  ended_blank (suc f) z = ap (λ (r : List A). z ∷ r) (ended_blank f z)
 
-  pub remove-end : (l : List A) (k : ℕ) (z : A) → length l ≡ suc k → set l k z ≡ take k l ++ (drop (suc k) l ++ z ∷ [])
-  remove-end l k z h = rw (set_split l k z (omega arith), drop_of_length-le l {i = suc k} (omega arith))
+  closed : (k f : ℕ) (y z : A) (l : List A) → k ≤ length l → drop k l ≡ replicate f z → set (take k l ++ drop k (y ∷ l)) k z ≡ l ++ z ∷ []
+  closed zero f y z l h b = rw b (ended_blank f z)
+  closed (suc k) f y z [] h b = absurd (omega arith)
+  closed (suc k) f y z (x ∷ l) h b = ap (λ (r : List A). x ∷ r) (closed k f x z l (omega arith) b)
 
--- the shifts of an array of 32, whatever it holds: at the loop's head, one turn of it, and its end
-module _ {A : Type 0} where
-  abbrev pub Inserting : ℕ → A → List A → List A → A → ℕ → Type 0
-  Inserting at y₀ l q y k = (k ≤ 32) × (length q ≡ 32) × (take k q ++ inserted 0 y (drop k q) ≡ inserted at y₀ l)
+  take_out_at : (at m e k f : ℕ) (z : A) (l : List A) → k ≡ at + m → e ≡ at + m → k < length l → drop (suc k) l ≡ replicate f z
+      → set (take at l ++ take m (drop (suc at) l) ++ drop e l) k z ≡ removed at z l
+  take_out_at at m e k f z [] g i h b = absurd (omega arith)
+  take_out_at zero m e k f z (x ∷ l) g i h b =
+      let j : m ≡ k = omega arith in
+      let j' : e ≡ k = omega arith in
+      rw (j, j') (closed k f x z l (omega arith) b)
+  take_out_at (suc at) m zero k f z (x ∷ l) g i h b = absurd (omega arith)
+  take_out_at (suc at) m (suc e) zero f z (x ∷ l) g i h b = absurd (omega arith)
+  take_out_at (suc at) m (suc e) (suc k) f z (x ∷ l) g i h b =
+      ap (λ (r : List A). x ∷ r) (take_out_at at m e k f z l (omega arith) (omega arith) (omega arith) b)
 
-  pub insert_again : (at : ℕ) (y₀ : A) (l q : List A) (y d : A) (k : ℕ) → Inserting at y₀ l q y k → k < 32
-      → Inserting at y₀ l (set q k y) (get_or q k d) (k + 1)
-  insert_again at y₀ l q y d k s h =
-      (omega arith, length-set q k y ∙ s.1, insert_step q k y d (omega (arith, s.1)) ∙ s.2)
-
-  pub insert_ends : (at : ℕ) (y₀ : A) (l q : List A) (y : A) (k : ℕ) → Inserting at y₀ l q y k → 32 ≤ k → q ≡ inserted at y₀ l
-  insert_ends at y₀ l q y k s h = sym (insert_end q k y (omega (arith, s.1))) ∙ s.2
-
-  abbrev pub Removing : ℕ → A → List A → List A → ℕ → Type 0
-  Removing at z l q k = (k < 32) × (length q ≡ 32) × (take k q ++ (drop (suc k) q ++ z ∷ []) ≡ removed at z l)
-
-  pub remove-again : (at : ℕ) (z : A) (l q : List A) (d : A) (k : ℕ) → Removing at z l q k → k < 31
-      → Removing at z l (set q k (get_or q (k + 1) d)) (k + 1)
-  remove-again at z l q d k s h =
-      (omega arith, length-set q k (get_or q (k + 1) d) ∙ s.1, remove-step q k z d (omega (arith, s.1)) ∙ s.2)
-
-  pub remove-ends : (at : ℕ) (z : A) (l q : List A) (k : ℕ) → Removing at z l q k → 31 ≤ k → set q 31 z ≡ removed at z l
-  remove-ends at z l q k s h =
-      let e : k ≡ 31 = omega (arith, s.0) in
-      remove-end q 31 z s.1 ∙ subst (λ (j : ℕ). take j q ++ (drop (suc j) q ++ z ∷ []) ≡ removed at z l) e s.2
-
-pub spot_start : (d : Terms) (n : ℕ) (vs : List Vcpu) (ts : List Tunnel) → spot_in d n vs ts ≡ 0 + spot_in d (n - 0) (drop 0 vs) (drop 0 ts)
-spot_start d n vs ts = let e : n - 0 ≡ n = omega arith in rw e (omega arith)
-
-pub spot_end : (d : Terms) (n : ℕ) (vs : List Vcpu) (ts : List Tunnel) (k : ℕ) → n ≡ k → k + spot_in d (n - k) (drop k vs) (drop k ts) ≡ k
-spot_end d n vs ts k h = let e : n - k ≡ 0 = omega arith in rw e (omega arith)
-
--- one place more of the search for the smallest identifier
-pub least_on : (low best : ℕ) (ids : List Tunnel) (k : ℕ) → k < length ids
-    → least_in low (nearer_of low best (get_or ids k (tunnel 0)).0) (drop (k + 1) ids) ≡ least_in low best (drop k ids)
-least_on low best ids k h = rw (add-one, drop-cons ids k (tunnel 0) h)
+  pub take_out : (at n f : ℕ) (z : A) (l : List A) → at < n → n ≤ length l → drop n l ≡ replicate f z
+      → set (paste l at (drop (at + 1) l) (n - (at + 1))) (n - 1) z ≡ removed at z l
+  take_out at n f z l h g b =
+      let i : n ≡ suc (n - 1) = omega arith in
+      rw (add-one at)
+      (take_out_at at (n - suc at) (at + (n - suc at)) (n - 1) f z l (omega arith) refl (omega arith)
+      (subst (λ (j : ℕ). drop j l ≡ replicate f z) i b))

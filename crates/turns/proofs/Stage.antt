@@ -9,7 +9,7 @@ use native.Mathlib.Omega.{arith}
 use lib.Dec.{eqb}
 use lib.ListN.{length, get_or, set, length-set}
 use lib.Seq.{set-get_or}
-use borrow.Author.Tests.{eq-eqb, ne_eqb, lt-ltb, le-ltb}
+use borrow.Author.Tests.{eq-eqb, ne_eqb}
 use Rattle.units.specs.Units.{moment, amount, total, tunnel}
 use Rattle.units.specs.declared.Moment.{Moment}
 use Rattle.units.specs.declared.Total.{Total}
@@ -22,49 +22,41 @@ use Rattle.rules.specs.Choose.{ready, better, most_urgent, choose, runs}
 use Rattle.rules.specs.Card.{Card}
 use Rattle.rules.specs.Turn.{after_charge, after_return, idle_then}
 use Rattle.rules.specs.Accounts.{all_held}
+use Rattle.rules.specs.Ledger.{idled}
 use Rattle.rules.proofs.Accounts.{held-within, idle-within}
 use Rattle.rules.specs.History.{holds as isHeldBy}
 use Rattle.rules.proofs.Tests.{no-some}
-use Rattle.rules.proofs.Lists.{all_imp, all_keep, length-keep}
+use Rattle.rules.proofs.Lists.{all_imp, length-keep}
 use Rattle.rules.proofs.Sound.{Sound, kept-charged}
 use Rattle.rules.proofs.Advance.{terms-charged}
 use Rattle.rules.proofs.Accepted.{Passed, in_time}
 use Rattle.rules.proofs.Reached.{returned-lawful}
 use Rattle.turns.specs.declared.Vcpu.{Vcpu}
-use Rattle.turns.specs.declared.Memory.{Memory}
-use Rattle.turns.specs.declared.Core.{Core}
+use Rattle.turns.specs.declared.Core.TheInside.{Inside}
 use Rattle.turns.specs.declared.Change.{Change}
 use Rattle.turns.specs.Laid.{laid}
-use Rattle.turns.specs.Written.{idle, never, nobody, amount_of, tunnel_of, written, no_tenant, card, core_of, place, place_of, timer_of}
+use Rattle.turns.specs.Written.{nobody, amount_of, tunnel_of, written, no_tenant, card, core_of, place, place_of}
 use Rattle.turns.specs.Written.{tenants, memories, memory_of}
-use Rattle.turns.proofs.Invariant.{Distinct, terms_of, Fits, SoundCore, between, card-reached, held-most, means, kept-fits}
-use Rattle.turns.specs.Steps.{charged_of, idled_of, Chargeable}
+use Rattle.turns.proofs.Invariant.{Distinct, terms_of, SoundCore, between, card-reached, held-most, means, kept-fits}
+use Rattle.turns.specs.Steps.{charged_of, Chargeable}
 use Rattle.turns.proofs.Laid.{laid-get, laid-set}
-use Rattle.turns.proofs.Written.{Shows, tenants-laid}
+use Rattle.turns.proofs.Written.{tenants-laid}
 use Rattle.turns.proofs.Places.{named_set}
 use Rattle.turns.proofs.Charge.{charged-same}
 use Rattle.turns.proofs.Ranked.{all-get, all_set}
 use Rattle.turns.proofs.Remembered.{memory-fixed}
-use Rattle.turns.proofs.Rows.{ids_of, verdict_of, judge-same}
-use Rattle.rules.specs.Remember.{Remembered, is_kept, kept}
+use Rattle.turns.proofs.Rows.{verdict_of, judge-same, Regular, regular}
+use Rattle.rules.specs.Remember.{is_kept, kept}
 use Rattle.rules.specs.Refuse.{refusal}
 use Rattle.rules.specs.Refuse.{Refusal as Row}
 use Rattle.turns.specs.declared.Refusal.{Refusal}
-use Rattle.turns.specs.declared.Verdict.{Verdict}
-use Rattle.turns.specs.declared.Verdict.TheVariants.{Accept, Refuse}
-use Rattle.turns.specs.Places.{named_at}
-use Rattle.turns.specs.Remembered.{Fixed, Below}
-use Rattle.turns.specs.Judge.{judge}
-use Rattle.turns.specs.Calls.{asked, call_of}
-
-abbrev pub places_of : List Tenant → List Vcpu
-places_of vs = laid 32 written (written no_tenant) vs
-
--- the arrays and the count are a list of tenants written
-pub record Filled (p : List Vcpu) (ids : List Tunnel) (n : ℕ) (vs : List Tenant) : Type 0 where
-  pub places : p ≡ places_of vs
-  pub tunnels : ids ≡ ids_of vs
-  pub count : n ≡ length vs
+use Rattle.std.specs.Prelude.{Option as Opt, Some, None, Err}
+use Rattle.turns.specs.Places.{on_table, named_at}
+use Rattle.turns.specs.Remembered.{Fixed, Judges}
+use Rattle.turns.specs.Judge.{Verdict, passes, judge}
+use Rattle.turns.specs.Calls.{asked, call_of, paper_refusal, refusal_said}
+use Rattle.turns.specs.Written.{moment_said, ids_of, places_of}
+use Rattle.turns.specs.Tenants.{Fits, Filled, Shows, ChargesAt, charged_places, idled_of, IsPlace}
 
 pub filled-tenants : (p : List Vcpu) (ids : List Tunnel) (n : ℕ) (vs : List Tenant) → length vs ≤ 32
     → All Shows vs
@@ -141,91 +133,74 @@ chosen_at test (v ∷ vs) w d e = go (test v) e (λ u. chosen_at test vs u d.1)
     go false f rec = further w (rec w f)
 
 -- what the fields of a valid core are
-module _ (c : Core) (r : SoundCore c) where
-  pub places_are : c.places ≡ places_of (card c).vcpus
+module _ (c : Inside) (r : SoundCore c) where
+  pub places_are : c.table.places ≡ places_of (card c).vcpus
   unfolding core_of
-  places_are = ap (λ (d : Core). d.places) r.written
+  places_are = ap (λ (d : Inside). d.table.places) r.written
 
-  pub ids_are : c.ids ≡ ids_of (card c).vcpus
+  pub ids_are : c.table.ids ≡ ids_of (card c).vcpus
   unfolding core_of
-  ids_are = ap (λ (d : Core). d.ids) r.written
+  ids_are = ap (λ (d : Inside). d.table.ids) r.written
 
-  pub n-is : c.n ≡ length (card c).vcpus
+  pub n-is : c.table.n ≡ length (card c).vcpus
   unfolding core_of
-  n-is = ap (λ (d : Core). d.n) r.written
+  n-is = ap (λ (d : Inside). d.table.n) r.written
 
   pub last-is : c.last ≡ moment (card c).last
   unfolding core_of
-  last-is = ap (λ (d : Core). d.last) r.written
+  last-is = ap (λ (d : Inside). d.last) r.written
 
-  timer-is : c.timer ≡ moment (timer_of (card c).timer)
+  timer-is : c.timer ≡ moment_said (card c).timer
   unfolding core_of
-  timer-is = ap (λ (d : Core). d.timer) r.written
+  timer-is = ap (λ (d : Inside). d.timer) r.written
 
-  pub memory-is : c.memory ≡ memory_of (card c).remembered
+  pub memory-is : c.table.memory ≡ memory_of (card c).remembered
   unfolding core_of
-  memory-is = ap (λ (d : Core). d.memory) r.written
+  memory-is = ap (λ (d : Inside). d.table.memory) r.written
 
   -- it shows them
-  pub memories_are : memories c.memory ≡ (card c).remembered
+  pub memories_are : memories c.table.memory ≡ (card c).remembered
   unfolding card
   memories_are = refl
 
-  pub memory-written : Fixed c.memory
+  pub memory-written : Fixed c.table.memory
   memory-written = subst Fixed (sym memory-is) (memory-fixed (card c).remembered (omega (arith, (means c r).few-together)))
-
-  pub remembered-below : Below (card c).remembered
-  remembered-below = all_imp (λ x g. omega (arith, g.2, (means c r).time-high)) (card c).remembered (means c r).remembered-range
 
   -- of those, the ones remembered still at a moment
   module _ (now : ℕ) where
-    pub kept-below : Below (kept now (card c).remembered)
-    kept-below = all_keep (λ x. x.time < never) (is_kept now) (card c).remembered remembered-below
-
-    -- as the code has them: moved to the front, or, where there are none, left alone
-    pub kept-written : (m : Memory) → m ≡ memory_of (kept now (memories c.memory)) → m ≡ memory_of (kept now (card c).remembered)
-    kept-written m e = e ∙ ap (λ (rs : List Remembered). memory_of (kept now rs)) memories_are
-
-    pub kept-none : c.memory.count ≤ 0 → c.memory ≡ memory_of (kept now (card c).remembered)
-    kept-none h = go (card c).remembered memory-is
-      where
-        go : (rs : List Remembered) → c.memory ≡ memory_of rs → c.memory ≡ memory_of (kept now rs)
-        go [] e = e
-        go (x ∷ rs) e = absurd (omega (arith, ap (λ (m : Memory). m.count) e))
-
     pub kept-few : length (card c).vcpus + length (kept now (card c).remembered) ≤ 32
     kept-few = omega (arith, (means c r).few-together, length-keep (is_kept now) (card c).remembered)
 
-  pub removed-is : c.removed ≡ total (card c).removed
+  pub removed-is : c.table.removed ≡ total (card c).removed
   unfolding core_of
-  removed-is = ap (λ (d : Core). d.removed) r.written
+  removed-is = ap (λ (d : Inside). d.table.removed) r.written
 
   idle-kept : c.idle ≡ total (card c).idle
   unfolding core_of
-  idle-kept = ap (λ (d : Core). d.idle) r.written
+  idle-kept = ap (λ (d : Inside). d.idle) r.written
 
   running-is : c.running ≡ place_of (card c).running (card c).vcpus
   unfolding core_of
-  running-is = ap (λ (d : Core). d.running) r.written
+  running-is = ap (λ (d : Inside). d.running) r.written
 
-  pub filled : Filled c.places c.ids c.n (card c).vcpus
+  pub filled : Filled c.table.places c.table.ids c.table.n (card c).vcpus
   filled = record { places = places_are; tunnels = ids_are; count = n-is }
 
   seat-is : (card c).running ≡ runs (choose (card c).vcpus)
   seat-is = (card-reached c r).settled.runs-chosen
 
 -- who is charged
-record Runs (c : Core) (w : Tenant) : Type 0 where
+record Runs (c : Inside) (w : Tenant) : Type 0 where
   pub seat : (card c).running ≡ some w.terms.tunnel
   pub chosen : choose (card c).vcpus ≡ some w
-  pub place : c.running ≡ place w.terms.tunnel (card c).vcpus
+  pub place : c.running ≡ Some (place w.terms.tunnel (card c).vcpus)
   pub at : At w (card c).vcpus
 
-data Holds (c : Core) : Type 0 where
+data Holds (c : Inside) : Type 0 where
   held : (w : Tenant) → Runs c w → Holds c
-  idles : (card c).running ≡ none → c.running ≡ idle → Holds c
+  idles : (card c).running ≡ none → c.running ≡ None → Holds c
 
-holds : (c : Core) → SoundCore c → Holds c
+holds : (c : Inside) → SoundCore c → Holds c
 holds c r = go (choose (card c).vcpus) refl
   where
     go : (o : Option Tenant) → choose (card c).vcpus ≡ o → Holds c
@@ -252,7 +227,7 @@ slot-most (suc k) zero (e ∷ q) = omega arith
 slot-most (suc k) (suc i) (e ∷ q) = omega (arith, slot-most k i q)
 
 -- the charge of the one that holds the core
-module _ (c : Core) (r : SoundCore c) (now : Moment) (change : Change) (m : Passed (card c) now.0 (asked change)) (w : Tenant)
+module _ (c : Inside) (r : SoundCore c) (now : Moment) (change : Change) (m : Passed (card c) now.0 (asked change)) (w : Tenant)
     (h : Runs c w) where
   sound : Sound (card c).last w
   sound =
@@ -278,10 +253,9 @@ module _ (c : Core) (r : SoundCore c) (now : Moment) (change : Change) (m : Pass
       (all-get (λ x. x.held_total ≤ (card c).last) (card c).vcpus (place w.terms.tunnel (card c).vcpus) no_tenant (held-most c r)
       h.at.inside)
 
-  held-record : (z : Vcpu) → get_or c.places c.running z ≡ written w
+  held-record : (z : Vcpu) → get_or c.table.places (place w.terms.tunnel (card c).vcpus) z ≡ written w
   held-record z =
-      ap (λ (p : List Vcpu). get_or p c.running z) (places_are c r)
-      ∙ ap (λ (i : ℕ). get_or (places_of (card c).vcpus) i z) h.place
+      ap (λ (p : List Vcpu). get_or p (place w.terms.tunnel (card c).vcpus) z) (places_are c r)
       ∙ laid-get written (written no_tenant) 32 (card c).vcpus (place w.terms.tunnel (card c).vcpus) no_tenant z h.at.inside
       (between c r).few
       ∙ ap written h.at.is
@@ -297,8 +271,10 @@ module _ (c : Core) (r : SoundCore c) (now : Moment) (change : Change) (m : Pass
         owed = omega (arith, sound.adds, sound.most, sound.range.capacity-high, sound.range.period-high);
       }
 
-  held-chargeable : (z : Vcpu) → Chargeable (get_or c.places c.running z) c.last now
-  held-chargeable z = rw (held-record z, last-is c r) chargeable
+  held-charges : ChargesAt c.running c.last now c.table
+  held-charges =
+      rw h.place
+      (omega (arith, h.at.inside, (between c r).few), rw (held-record (written no_tenant), last-is c r) chargeable)
 
   charge-set : after_charge (card c) now.0
       ≡ set (card c).vcpus (place w.terms.tunnel (card c).vcpus) (charged (card c).last now.0 w)
@@ -323,15 +299,13 @@ module _ (c : Core) (r : SoundCore c) (now : Moment) (change : Change) (m : Pass
       (all_set Fits (card c).vcpus (place w.terms.tunnel (card c).vcpus) (charged (card c).last now.0 w)
       (all_fit (card c).last (card c).vcpus (between c r).each) charged-fits)
 
-  charge-filled : (z : Vcpu) → Filled (set c.places c.running (charged_of (get_or c.places c.running z) c.last now)) c.ids
-      c.n
-      (after_charge (card c) now.0)
-  charge-filled z =
-      subst (λ (p : List Vcpu). Filled p c.ids c.n (after_charge (card c) now.0)) (sym same)
-      (subst (Filled (set c.places (place w.terms.tunnel (card c).vcpus) (written (charged (card c).last now.0 w))) c.ids
-      c.n)
+  charge-filled : Filled (charged_places c.running c.last now c.table.places) c.table.ids c.table.n (after_charge (card c) now.0)
+  charge-filled =
+      subst (λ (p : List Vcpu). Filled p c.table.ids c.table.n (after_charge (card c) now.0)) (sym same)
+      (subst (Filled (set c.table.places (place w.terms.tunnel (card c).vcpus) (written (charged (card c).last now.0 w))) c.table.ids
+      c.table.n)
       (sym charge-set)
-      (filled-set c.places c.ids c.n (place w.terms.tunnel (card c).vcpus) (charged (card c).last now.0 w)
+      (filled-set c.table.places c.table.ids c.table.n (place w.terms.tunnel (card c).vcpus) (charged (card c).last now.0 w)
       (card c).vcpus
       h.at.inside (between c r).few (ap (λ (d : Description). d.tunnel) terms-kept) (filled c r)))
     where
@@ -341,17 +315,17 @@ module _ (c : Core) (r : SoundCore c) (now : Moment) (change : Change) (m : Pass
           (λ e. (sound.sporadic e).0)
           now.0 m.not-before refl
 
-      same : set c.places c.running (charged_of (get_or c.places c.running z) c.last now)
-          ≡ set c.places (place w.terms.tunnel
-          (card c).vcpus) (written (charged (card c).last now.0 w))
+      same : charged_places c.running c.last now c.table.places
+          ≡ set c.table.places (place w.terms.tunnel (card c).vcpus) (written (charged (card c).last now.0 w))
       same =
-          ap (λ (v : Vcpu). set c.places c.running (charged_of v c.last now)) (held-record z)
-          ∙ ap (λ (l : Moment). set c.places c.running (charged_of (written w) l now)) (last-is c r)
-          ∙ ap (set c.places c.running) written-charge
-          ∙ ap (λ (i : ℕ). set c.places i (written (charged (card c).last now.0 w))) h.place
+          ap (λ (o : Opt ℕ). charged_places o c.last now c.table.places) h.place
+          ∙ ap (λ (v : Vcpu). set c.table.places (place w.terms.tunnel (card c).vcpus) (charged_of v c.last now))
+          (held-record (written no_tenant))
+          ∙ ap (λ (l : Moment). set c.table.places (place w.terms.tunnel (card c).vcpus) (charged_of (written w) l now)) (last-is c r)
+          ∙ ap (set c.table.places (place w.terms.tunnel (card c).vcpus)) written-charge
 
 -- in idle nobody is charged
-module _ (c : Core) (r : SoundCore c) (now : Moment) (change : Change) (m : Passed (card c) now.0 (asked change))
+module _ (c : Inside) (r : SoundCore c) (now : Moment) (change : Change) (m : Passed (card c) now.0 (asked change))
     (e : (card c).running ≡ none) where
   idle-charge : after_charge (card c) now.0 ≡ (card c).vcpus
   idle-charge = ap (λ (o : Option ℕ). charge (card c).last now.0 o (card c).vcpus) e
@@ -359,11 +333,11 @@ module _ (c : Core) (r : SoundCore c) (now : Moment) (change : Change) (m : Pass
   idle-fits : All Fits (after_charge (card c) now.0)
   idle-fits = subst (All Fits) (sym idle-charge) (all_fit (card c).last (card c).vcpus (between c r).each)
 
-  idle-filled : Filled c.places c.ids c.n (after_charge (card c) now.0)
-  idle-filled = subst (Filled c.places c.ids c.n) (sym idle-charge) (filled c r)
+  idle-filled : Filled c.table.places c.table.ids c.table.n (after_charge (card c) now.0)
+  idle-filled = subst (Filled c.table.places c.table.ids c.table.n) (sym idle-charge) (filled c r)
 
 -- after steps 1 and 2 all is still to come
-pub returned-sound : (c : Core) → SoundCore c → (now : Moment) (change : Change) → Passed (card c) now.0 (asked change)
+pub returned-sound : (c : Inside) → SoundCore c → (now : Moment) (change : Change) → Passed (card c) now.0 (asked change)
     → All (Sound now.0) (after_return (card c) now.0)
 returned-sound c r now change m = (returned-lawful (card c) _ _ (call_of now change) (card-reached c r) m).sound
 
@@ -373,35 +347,31 @@ pub record Stands (p : List Vcpu) (ids : List Tunnel) (n : ℕ) (vs : List Tenan
   pub fits : All Fits vs
 
 -- .. and the ticks held are no more than have passed
-pub held-there : (c : Core) (r : SoundCore c) (now : Moment) (change : Change) → Passed (card c) now.0 (asked change)
+pub held-there : (c : Inside) (r : SoundCore c) (now : Moment) (change : Change) → Passed (card c) now.0 (asked change)
     → all_held (after_return (card c) now.0) + (card c).removed ≤ now.0
 held-there c r now change m =
     subst (λ (k : Card). all_held (after_return k now.0) + k.removed ≤ now.0) (sym r.shows)
     (held-within r.calls (call_of now change) (subst (λ (k : Card). Passed k now.0 (asked change)) r.shows m))
 
--- step 1, whoever holds the core: the place of a holder is below the count, and idle's is not
-module _ (c : Core) (r : SoundCore c) (now : Moment) (change : Change) (m : Passed (card c) now.0 (asked change)) where
-  few : c.n ≤ 32
-  few = omega (arith, n-is c r, (between c r).few)
+-- step 1, whoever holds the core
+module _ (c : Inside) (r : SoundCore c) (now : Moment) (change : Change) (m : Passed (card c) now.0 (asked change)) where
+  pub charge-asks : ChargesAt c.running c.last now c.table
+  charge-asks = go (holds c r)
+    where
+      go : Holds c → ChargesAt c.running c.last now c.table
+      go (held w s) = held-charges c r now change m w s
+      go (idles e i) = rw i tt
 
-  module _ (z : Vcpu) (h : c.running < c.n) where
-    pub charge-asks : Chargeable (get_or c.places c.running z) c.last now
-    charge-asks = go (holds c r)
-      where
-        go : Holds c → Chargeable (get_or c.places c.running z) c.last now
-        go (held w s) = held-chargeable c r now change m w s z
-        go (idles e i) = absurd (omega (arith, few))
-
-    pub charge-stands :
-        Stands (set c.places c.running (charged_of (get_or c.places c.running z) c.last now)) c.ids c.n
-        (after_charge (card c) now.0)
-    charge-stands = go (holds c r)
-      where
-        go : Holds c
-            → Stands (set c.places c.running (charged_of (get_or c.places c.running z) c.last now)) c.ids c.n
-            (after_charge (card c) now.0)
-        go (held w s) = record { filled = charge-filled c r now change m w s z; fits = charge-fits c r now change m w s }
-        go (idles e i) = absurd (omega (arith, few))
+  pub charge-stands :
+      Stands (charged_places c.running c.last now c.table.places) c.table.ids c.table.n (after_charge (card c) now.0)
+  charge-stands = go (holds c r)
+    where
+      go : Holds c
+          → Stands (charged_places c.running c.last now c.table.places) c.table.ids c.table.n (after_charge (card c) now.0)
+      go (held w s) = record { filled = charge-filled c r now change m w s; fits = charge-fits c r now change m w s }
+      go (idles e i) =
+          subst (λ (o : Opt ℕ). Stands (charged_places o c.last now c.table.places) c.table.ids c.table.n (after_charge (card c) now.0))
+          (sym i) (record { filled = idle-filled c r now change m e; fits = idle-fits c r now change m e })
 
   -- the idle ticks are the rules'
   pub idle-is : idled_of c.idle c.running c.last now ≡ total (idle_then (card c) now.0)
@@ -412,47 +382,57 @@ module _ (c : Core) (r : SoundCore c) (now : Moment) (change : Change) (m : Pass
       within : (card c).idle ≤ (card c).last
       within = subst (λ (k : Card). k.idle ≤ k.last) (sym r.shows) (idle-within r.calls)
 
-      go : Holds c → idled_of (total (card c).idle) c.running (moment (card c).last) now ≡ total (idle_then (card c) now.0)
-      go (held w s) =
-          rw (lt-ltb c.running idle (omega (arith, s.place, s.at.inside, (between c r).few)), s.seat)
-      go (idles e i) = rw (le-ltb c.running idle (omega arith), e) (ap total (omega (arith, within, m.not-above, m.not-before)))
+      same : (o o' : Opt ℕ) (q q' : Option ℕ) → o ≡ o' → q ≡ q'
+          → idled_of (total (card c).idle) o' (moment (card c).last) now ≡ total (idled (card c).last now.0 q' (card c).idle)
+          → idled_of (total (card c).idle) o (moment (card c).last) now ≡ total (idled (card c).last now.0 q (card c).idle)
+      same o o' q q' e f k = rw (e, f) k
 
-  pub idle-stands : c.n ≤ c.running → Stands c.places c.ids c.n (after_charge (card c) now.0)
-  idle-stands h = go (holds c r)
-    where
-      go : Holds c → Stands c.places c.ids c.n (after_charge (card c) now.0)
-      go (held w s) = absurd (omega (arith, s.place, s.at.inside, n-is c r))
-      go (idles e i) = record { filled = idle-filled c r now change m e; fits = idle-fits c r now change m e }
+      go : Holds c → idled_of (total (card c).idle) c.running (moment (card c).last) now ≡ total (idle_then (card c) now.0)
+      go (held w s) = same c.running _ (card c).running _ s.place s.seat refl
+      go (idles e i) =
+          same c.running _ (card c).running _ i e (ap total (omega (arith, within, m.not-above, m.not-before)))
+
+-- a place that holds the core is one of the table
+pub running-place : (c : Inside) → SoundCore c → IsPlace c.running
+running-place c r = go (holds c r)
+  where
+    go : Holds c → IsPlace c.running
+    go (held w s) = rw s.place (omega (arith, s.at.inside, (between c r).few))
+    go (idles e i) = rw i tt
 
 -- the verdict on a valid core
-module _ (c : Core) (now : Moment) (change : Change) (r : SoundCore c) (at : ℕ) (a : at ≡ named_at c.ids change) (m : Memory)
-    (i : m ≡ memory_of (kept now.0 (card c).remembered)) where
-  pub named-card : at ≡ named_at (ids_of (card c).vcpus) change
-  named-card = a ∙ ap (λ (i : List Tunnel). named_at i change) (ids_are c r)
+pub judges : (c : Inside) → SoundCore c → Judges c.table
+judges c r = record { few = omega (arith, n-is c r, (between c r).few); fixed = memory-written c r }
 
-  judged_card : judge c.last c.timer at c.n m now change ≡ verdict_of (refusal (card c) now.0 (asked change))
-  judged_card =
-      same c.last _ c.timer _ at _ c.n _ m _ (last-is c r) (timer-is c r) named-card (n-is c r) i
-      ∙ judge-same (card c) now change (between c r).few (omega (arith, kept-few c r now.0)) (kept-below c r now.0)
-    where
-      same : (l l' t t' : Moment) (a a' n n' : ℕ) (m m' : Memory) → l ≡ l' → t ≡ t' → a ≡ a' → n ≡ n' → m ≡ m'
-          → judge l t a n m now change ≡ judge l' t' a' n' m' now change
-      same l l' t t' a a' n n' m m' p q u v w = rw (p, q, u, v, w)
+module _ (c : Inside) (now : Moment) (change : Change) (r : SoundCore c) where
+  module _ (at : Opt ℕ) (a : at ≡ on_table (named_at c.table.ids change)) where
+    pub named-card : at ≡ on_table (named_at (ids_of (card c).vcpus) change)
+    named-card = a ∙ ap (λ (i : List Tunnel). on_table (named_at i change)) (ids_are c r)
 
-  module _ (v : Verdict) (e : v ≡ judge c.last c.timer at c.n m now change) where
-    pub accepted-call : v ≡ Accept → refusal (card c) now.0 (asked change) ≡ none
-    accepted-call g = go (refusal (card c) now.0 (asked change)) (sym g ∙ e ∙ judged_card)
+    judged_card : judge c.last c.timer at c.table now change ≡ verdict_of (refusal (card c) now.0 (asked change))
+    judged_card =
+        same c.last _ c.timer _ at _ (last-is c r) (timer-is c r) named-card
+        ∙ judge-same (card c) now change (between c r).few c.table (n-is c r) (memories_are c r)
       where
-        go : (o : Option Row) → Accept ≡ verdict_of o → o ≡ none
-        go none f = refl
-        go (some x) f = let z : ◌≡◌ {A = ℕ} 0 1 = cc in absurd (omega arith)
+        same : (l l' : Moment) (t t' : Opt Moment) (a a' : Opt ℕ) → l ≡ l' → t ≡ t' → a ≡ a'
+            → judge l t a c.table now change ≡ judge l' t' a' c.table now change
+        same l l' t t' a a' p q u = rw (p, q, u)
 
-    pub refused-call : (x : Refusal) → v ≡ Refuse x
-        → refusal (card c) now.0 (asked change) ≡ some (record { number = x.number; detail = x.detail })
-    refused-call x g = go (refusal (card c) now.0 (asked change)) (sym g ∙ e ∙ judged_card)
-      where
-        go : (o : Option Row) → Refuse x ≡ verdict_of o → o ≡ some (record { number = x.number; detail = x.detail })
-        go none f = let z : ◌≡◌ {A = ℕ} 0 1 = cc in absurd (omega arith)
-        go (some y) f =
-            let h : x ≡ record { number = y.number; detail = y.detail } = cc in
-            ap (λ (u : Refusal). some (record { number = u.number; detail = u.detail })) (sym h)
+    module _ (v : Verdict) (e : v ≡ judge c.last c.timer at c.table now change) where
+      pub accepted-call : v ≡ passes → refusal (card c) now.0 (asked change) ≡ none
+      accepted-call g = go (refusal (card c) now.0 (asked change)) (sym g ∙ e ∙ judged_card)
+        where
+          go : (o : Option Row) → passes ≡ verdict_of o → o ≡ none
+          go none f = refl
+          go (some x) f = let z : ◌≡◌ {A = ℕ} 0 1 = cc in absurd (omega arith)
+
+      -- a refusal is the rules' row
+      pub refused-call : (x : Refusal) → v ≡ Err x → refusal (card c) now.0 (asked change) ≡ some (paper_refusal x)
+      refused-call x g =
+          go (refusal (card c) now.0 (asked change)) (regular (card c) now.0 (asked change)) (sym g ∙ e ∙ judged_card)
+        where
+          go : (o : Option Row) → Regular o → Err x ≡ verdict_of o → o ≡ some (paper_refusal x)
+          go none k f = let z : ◌≡◌ {A = ℕ} 0 1 = cc in absurd (omega arith)
+          go (some y) k f =
+              let h : x ≡ refusal_said y = cc in
+              ap some (sym k ∙ ap paper_refusal (sym h))

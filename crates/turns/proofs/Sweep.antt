@@ -2,15 +2,14 @@
 -- Assumes nothing.
 use Prim.Native.Nat.{ℕ, zero, suc, ◌+◌, ◌*◌, ◌≤◌, ◌<◌}
 use mathlib.Core.Path.{◌≡◌, refl, ap, sym, ◌∙◌, subst}
-use mathlib.Core.Bool.{Bool, true, false, cond, not}
+use mathlib.Core.Bool.{Bool, true, false, cond}
 use mathlib.Core.List.{List, [], ◌∷◌, ◌++◌, map}
 use mathlib.Core.Option.{Option, none, some}
 use native.Mathlib.Omega.{arith}
 use native.Mathlib.Numerals.{add-one}
-use lib.Dec.{leb, ltb}
+use lib.Dec.{leb}
 use lib.ListN.{length, take, get_or, set, replicate}
-use lib.Seq.{set-get_or, take-suc, take_all, length-take-le}
-use borrow.Author.Tests.{ltb-true, not-false}
+use lib.Seq.{take-suc, take_all, length-take-le}
 use Rattle.units.specs.Units.{moment, tunnel}
 use Rattle.units.specs.declared.Moment.{Moment}
 use Rattle.units.specs.declared.Tunnel.{Tunnel}
@@ -24,20 +23,20 @@ use Rattle.rules.specs.Told.{total as totalTold}
 use Rattle.rules.proofs.Lists.{all_every}
 use Rattle.rules.proofs.Tests.{clash}
 use Rattle.rules.proofs.ThreeKinds.{terms-returned}
-use Rattle.rules.proofs.Brought.{refill-more, usable-told, told-most}
+use Rattle.rules.proofs.Brought.{refill-more, told-most}
 use Rattle.turns.specs.declared.Vcpu.{Vcpu}
 use Rattle.turns.specs.declared.Told.{Told}
 use Rattle.turns.specs.declared.AllTold.{AllTold}
+use Rattle.turns.specs.declared.Roster.{Roster}
 use Rattle.turns.specs.Laid.{laid}
-use Rattle.turns.specs.Written.{never, nobody, tunnel_of, written, no_tenant, tenants}
-use Rattle.turns.proofs.Invariant.{Fits}
-use Rattle.turns.specs.Steps.{has_queue, head_of, bare, rests_of, brought_to, all_told, Returnable}
+use Rattle.turns.specs.Written.{never, nobody, tunnel_of, written, no_tenant, tenants_in, places_of, ids_of}
+use Rattle.turns.specs.Steps.{has_queue, head_of, bare, brought_to, Returnable}
+use Rattle.turns.specs.Tenants.{Formed, queue, refills, Fits, Filled, Returns, with_places, returned_table, head_then}
+use Rattle.turns.specs.Tenants.{times_before, times_then, all_told}
 use Rattle.turns.proofs.Laid.{laid-get, laid-set, laid_end, laid-map}
-use Rattle.turns.proofs.Written.{under, Formed, queue, refills, kind-queue, kind-left, shown-written}
-use Rattle.turns.proofs.Return.{head-written, returned-none}
+use Rattle.turns.proofs.Written.{under, kind-queue, kind-left, shown-written}
 use Rattle.turns.proofs.Ranked.{all-get}
-use Rattle.turns.proofs.Rows.{ids_of}
-use Rattle.turns.proofs.Stage.{places_of, Filled, filled-tenants, all_show}
+use Rattle.turns.proofs.Stage.{filled-tenants, all_show}
 
 module _ {A : Type 0} (f : A → A) where
   -- the first i mapped
@@ -65,22 +64,12 @@ module _ {A : Type 0} (f : A → A) where
   upto_all [] = refl
   upto_all (x ∷ l) = ap (λ (r : List A). f x ∷ r) (upto_all l)
 
--- the time that the return step reports of a tenant, as the code has it
-abbrev pub head_then : ℕ → Tenant → Moment
-head_then now x = moment (head_of (written (returned now x)))
-
--- at the loop's head; the first i have reported
-pub record Sweeping (now : Moment) (ids : List Tunnel) (n : ℕ) (p₀ p : List Vcpu) (next : List Moment) (total : AllTold) (i : ℕ)
-    : Type 0 where
-  pub filled : Filled p₀ ids n (tenants n ids p₀)
-  pub fits : All Fits (tenants n ids p₀)
-  pub time : now.0 ≤ largest_time
-  pub done : p ≡ places_of (upto (returned now.0) i (tenants n ids p₀))
-  pub heard : next ≡ laid 32 (head_then now.0) (moment never) (take i (tenants n ids p₀))
-  pub sums : total.ticks.0 ≡ totalTold (tell now.0 (take i (tenants n ids p₀)))
+-- at the loop's head: `x` is the table before it and `y` now; the first i have reported
+pub record Sweeping (now : Moment) (x y : Roster) (next : List Moment) (total : AllTold) (i : ℕ) : Type 0 where
+  pub done : y ≡ with_places x (places_of (upto (returned now.0) i (tenants_in x)))
+  pub heard : next ≡ laid 32 (head_then now.0) (moment never) (take i (tenants_in x))
+  pub sums : total ≡ all_told (totalTold (tell now.0 (take i (tenants_in x))))
   pub small : total.ticks.0 ≤ i * 1000000
-  pub most : i ≤ n
-  pub few : n ≤ 32
 
 total-end : (now : ℕ) (l : List Tenant) (x : Tenant) → totalTold (tell now (l ++ x ∷ [])) ≡ totalTold (tell now l) + (tells now x).ticks
 total-end now [] x = omega arith
@@ -91,21 +80,13 @@ unfolding laid
 blank_times now zero = refl
 blank_times now (suc k) = ap (λ (r : List Moment). moment never ∷ r) (blank_times now k)
 
-pub sweep_start : (now : Moment) (ids : List Tunnel) (n : ℕ) (p : List Vcpu) (vs : List Tenant) → now.0 ≤ largest_time → n ≤ 32
-    → Filled p ids n vs
-    → All Fits vs → Sweeping now ids n p p (replicate 32 (moment never)) (all_told 0) 0
-sweep_start now ids n p vs h l f r =
-    let e : tenants n ids p ≡ vs = filled-tenants p ids n vs (omega (arith, f.count)) (all_show vs r) f in
+pub sweep_start : (now : Moment) (x : Roster) → Returns now x → Sweeping now x x times_before (all_told 0) 0
+sweep_start now x r =
     record {
-      filled = subst (Filled p ids n) (sym e) f;
-      fits = subst (All Fits) (sym e) r;
-      time = h;
-      done = f.places ∙ ap places_of (sym e);
+      done = ap (with_places x) r.filled.places;
       heard = blank_times now.0 32;
       sums = refl;
       small = omega arith;
-      most = omega arith;
-      few = l;
     }
 
 module _ (now : Moment) (x : Tenant) (h : now.0 ≤ largest_time) (r : Fits x) where
@@ -160,11 +141,6 @@ module _ (now : Moment) (x : Tenant) (h : now.0 ≤ largest_time) (r : Fits x) w
   its_boundary (queue k e) n = absurd (n k)
   its_boundary (refills k h p b e) n = (p, b, e)
 
-  gained : (returned now.0 x).usable ≡ x.usable + (tells now.0 x).ticks
-  gained =
-      usable-told now.0 x (no-boundary r.shows.1) (its_boundary r.shows.1)
-      (λ n. refill-more x (omega (arith, r.most)) r.polls)
-
   told-small : (tells now.0 x).ticks ≤ 1000000
   told-small =
       omega (
@@ -183,151 +159,95 @@ module _ (now : Moment) (x : Tenant) (h : now.0 ≤ largest_time) (r : Fits x) w
       go none = refl
       go (some b) = refl
 
-  rests : not (ltb now.0 (head_of (written x))) ≡ false → returned now.0 x ≡ x
-  rests e =
-      returned-none now.0 x (omega arith) r.shows.1
-      (subst (λ (n : ℕ). now.0 < n) (head-written x)
-      (ltb-true now.0 (head_of (written x)) (not-false (ltb now.0 (head_of (written x))) e)))
-
 -- at a place that is read; `z` is what a read past the end would give
-pub record Visit : Type 0 where
-  pub now : Moment
-  pub ids : List Tunnel
-  pub n : ℕ
-  pub p₀ : List Vcpu
-  pub p : List Vcpu
-  pub next : List Moment
-  pub total : AllTold
-  pub i : ℕ
-  pub inv : Sweeping now ids n p₀ p next total i
-  pub below : i < n
-  pub z : Vcpu
+module _ (now : Moment) (x y : Roster) (r : Returns now x) (next : List Moment) (total : AllTold) (i : ℕ)
+    (s : Sweeping now x y next total i) (below : i < x.n) (z : Vcpu) where
+  abbrev vs : List Tenant
+  vs = tenants_in x
 
-module _ (t : Visit) where
-  abbrev now : Moment
-  now = t.now
-
-  abbrev ids : List Tunnel
-  ids = t.ids
-
-  abbrev n : ℕ
-  n = t.n
-
-  abbrev p₀ : List Vcpu
-  p₀ = t.p₀
-
-  abbrev p : List Vcpu
-  p = t.p
-
-  abbrev i : ℕ
-  i = t.i
-
-  abbrev z : Vcpu
-  z = t.z
-
-  abbrev s : Sweeping now ids n p₀ p t.next t.total i
-  s = t.inv
+  abbrev seen : List Tenant
+  seen = upto (returned now.0) i vs
 
   -- the tenant there
-  abbrev x : Tenant
-  x = get_or (tenants n ids p₀) i no_tenant
+  abbrev v : Tenant
+  v = get_or vs i no_tenant
 
-  inside : i < length (tenants n ids p₀)
-  inside = omega (arith, s.filled.count, t.below)
+  inside : i < length vs
+  inside = omega (arith, r.filled.count, below)
 
-  long : length (upto (returned now.0) i (tenants n ids p₀)) ≤ 32
-  long = omega (arith, upto-length (returned now.0) i (tenants n ids p₀), s.filled.count, s.few)
+  long : length seen ≤ 32
+  long = omega (arith, upto-length (returned now.0) i vs, r.filled.count, r.few)
 
-  reaches : i < length (upto (returned now.0) i (tenants n ids p₀))
-  reaches = omega (arith, upto-length (returned now.0) i (tenants n ids p₀), inside)
+  reaches : i < length seen
+  reaches = omega (arith, upto-length (returned now.0) i vs, inside)
 
-  sound : Fits (get_or (tenants n ids p₀) i no_tenant)
-  sound = all-get Fits (tenants n ids p₀) i no_tenant s.fits inside
+  sound : Fits v
+  sound = all-get Fits vs i no_tenant r.fits inside
 
-  read : get_or p i z ≡ written (get_or (tenants n ids p₀) i no_tenant)
+  read : get_or y.places i z ≡ written v
   read =
-      ap (λ (q : List Vcpu). get_or q i z) s.done
-      ∙ laid-get written (written no_tenant) 32 (upto (returned now.0) i (tenants n ids p₀)) i no_tenant z reaches long
-      ∙ ap written (upto-get (returned now.0) i (tenants n ids p₀) no_tenant)
+      ap (λ (q : Roster). get_or q.places i z) s.done
+      ∙ laid-get written (written no_tenant) 32 seen i no_tenant z reaches long
+      ∙ ap written (upto-get (returned now.0) i vs no_tenant)
 
-  pub sweep_asks : Returnable (get_or p i z) now
-  sweep_asks = subst (λ (v : Vcpu). Returnable v now) (sym read) (returnable now (get_or (tenants n ids p₀) i no_tenant) s.time sound)
+  pub sweep_asks : Returnable (get_or y.places i z) now
+  sweep_asks = subst (λ (w : Vcpu). Returnable w now) (sym read) (returnable now v r.time sound)
 
-  next-places : places_of (upto (returned now.0) (i + 1) (tenants n ids p₀))
-      ≡ set p i (written (returned now.0 (get_or (tenants n ids p₀) i no_tenant)))
+  next-places : places_of (upto (returned now.0) (i + 1) vs) ≡ set (places_of seen) i (written (returned now.0 v))
   next-places =
-      ap (λ (k : ℕ). places_of (upto (returned now.0) k (tenants n ids p₀))) (add-one i)
-      ∙ ap places_of (sym (upto-set (returned now.0) i (tenants n ids p₀) no_tenant inside))
-      ∙ sym (laid-set written (written no_tenant) 32 (upto (returned now.0) i (tenants n ids p₀)) i (returned now.0 (get_or
-      (tenants n ids p₀) i no_tenant)) reaches long)
-      ∙ ap (λ (q : List Vcpu). set q i (written (returned now.0 (get_or (tenants n ids p₀) i no_tenant)))) (sym s.done)
+      ap (λ (k : ℕ). places_of (upto (returned now.0) k vs)) (add-one i)
+      ∙ ap places_of (sym (upto-set (returned now.0) i vs no_tenant inside))
+      ∙ sym (laid-set written (written no_tenant) 32 seen i (returned now.0 v) reaches long)
 
-  far : length (take i (tenants n ids p₀)) ≡ i
-  far = length-take-le i (tenants n ids p₀) (omega (arith, inside))
+  far : length (take i vs) ≡ i
+  far = length-take-le i vs (omega (arith, inside))
 
-  one_further : take (i + 1) (tenants n ids p₀) ≡ take i (tenants n ids p₀) ++ x ∷ []
-  one_further = ap (λ (j : ℕ). take j (tenants n ids p₀)) (add-one i) ∙ take-suc (tenants n ids p₀) i no_tenant inside
+  one_further : take (i + 1) vs ≡ take i vs ++ v ∷ []
+  one_further = ap (λ (j : ℕ). take j vs) (add-one i) ∙ take-suc vs i no_tenant inside
 
-  -- the report is the rules', of the tenant there
-  pub record Reported (q : List Vcpu) (r : Told) : Type 0 where
-    placed : q ≡ set p i (written (returned now.0 x))
-    ticks : r.ticks.0 ≡ (tells now.0 x).ticks
-    time : r.next ≡ head_then now.0 x
+  came : written (returned now.0 (bare (get_or y.places i z))) ≡ written (returned now.0 v)
+  came = ap (λ (w : Vcpu). written (returned now.0 (bare w))) read ∙ returned-bare now v r.time sound
 
-  pub sweep_fits : (q : List Vcpu) (r : Told) → Reported q r → t.total.ticks.0 + r.ticks.0 < 4294967296
-  sweep_fits q r k = omega (arith, s.small, s.few, t.below, k.ticks, told-small now x s.time sound)
+  ticks : (tells now.0 (bare (get_or y.places i z))).ticks ≡ (tells now.0 v).ticks
+  ticks = ap (λ (w : Vcpu). (tells now.0 (bare w)).ticks) read ∙ told-bare now v r.time sound
 
-  pub sweep_on : (q : List Vcpu) (r : Told) → Reported q r
-      → Sweeping now ids n p₀ q (set t.next i r.next) (all_told (t.total.ticks.0 + r.ticks.0)) (i + 1)
-  sweep_on q r k =
+  sweep_fits : total.ticks.0 + (brought_to now.0 (bare (get_or y.places i z))).ticks.0 < 4294967296
+  sweep_fits = omega (arith, s.small, r.few, below, ticks, told-small now v r.time sound)
+
+  sweep_on :
+      Sweeping now x (with_places y (set y.places i (written (returned now.0 (bare (get_or y.places i z))))))
+      (set next i (brought_to now.0 (bare (get_or y.places i z))).next)
+      (all_told (total.ticks.0 + (brought_to now.0 (bare (get_or y.places i z))).ticks.0)) (i + 1)
+  sweep_on =
       record {
-        filled = s.filled;
-        fits = s.fits;
-        time = s.time;
-        done = k.placed ∙ sym next-places;
+        done =
+            ap (λ (w : Vcpu). with_places y (set y.places i w)) came
+            ∙ ap (λ (q : Roster). with_places q (set q.places i (written (returned now.0 v)))) s.done
+            ∙ ap (with_places x) (sym next-places);
         heard =
-            ap (λ (m : Moment). set t.next i m) k.time
-            ∙ ap (λ (l : List Moment). set l i (head_then now.0 x)) s.heard
-            ∙ ap (λ (j : ℕ). set (laid 32 (head_then now.0) (moment never) (take i (tenants n ids p₀))) j (head_then now.0 x)) (sym far)
-            ∙ laid_end (head_then now.0) (moment never) 32 (take i (tenants n ids p₀)) x (omega (arith, far, s.few))
+            ap (λ (w : Vcpu). set next i (moment (head_of w))) came
+            ∙ ap (λ (l : List Moment). set l i (head_then now.0 v)) s.heard
+            ∙ ap (λ (j : ℕ). set (laid 32 (head_then now.0) (moment never) (take i vs)) j (head_then now.0 v)) (sym far)
+            ∙ laid_end (head_then now.0) (moment never) 32 (take i vs) v (omega (arith, far, inside, long, reaches))
             ∙ ap (laid 32 (head_then now.0) (moment never)) (sym one_further);
-        sums =
-            omega (
-              arith,
-              s.sums,
-              k.ticks,
-              ap (λ (l : List Tenant). totalTold (tell now.0 l)) one_further,
-              total-end now.0 (take i (tenants n ids p₀)) x,
-            );
-        small = omega (arith, s.small, k.ticks, told-small now x s.time sound);
-        most = omega (arith, t.below);
-        few = s.few;
+        sums = ap all_told (omega (
+          arith,
+          ap (λ (t : AllTold). t.ticks.0) s.sums,
+          ticks,
+          ap (λ (l : List Tenant). totalTold (tell now.0 l)) one_further,
+          total-end now.0 (take i vs) v,
+        ));
+        small = omega (arith, s.small, ticks, told-small now v r.time sound);
       }
 
-  pub sweep_due : Reported (set p i (written (returned now.0 (bare (get_or p i z))))) (brought_to now.0 (bare (get_or p i z))).told
-  sweep_due =
-      record {
-        placed = ap (set p i) there;
-        ticks = ap (λ (v : Vcpu). (tells now.0 (bare v)).ticks) read ∙ told-bare now x s.time sound;
-        time = ap (λ (v : Vcpu). moment (head_of v)) there;
-      }
-    where
-      there : written (returned now.0 (bare (get_or p i z))) ≡ written (returned now.0 x)
-      there = ap (λ (v : Vcpu). written (returned now.0 (bare v))) read ∙ returned-bare now x s.time sound
+  -- .., told by what the step on a VCPU and the sum promise
+  pub sweep_step : (w : Vcpu) (t : Told) (all : AllTold) → w ≡ written (returned now.0 (bare (get_or y.places i z)))
+      → t ≡ brought_to now.0 (bare (get_or y.places i z)) → all ≡ all_told (total.ticks.0 + t.ticks.0)
+      → Sweeping now x (with_places y (set y.places i w)) (set next i t.next) all (i + 1)
+  sweep_step w t all e f g = rw (e, g, f) sweep_on
 
-  pub sweep_rests : not (ltb now.0 (head_of (get_or p i z))) ≡ false → Reported p (rests_of (get_or p i z))
-  sweep_rests e =
-      record {
-        placed = sym (set-get_or p i z) ∙ ap (set p i) there;
-        ticks = omega (arith, gained now x s.time sound, ap (λ (v : Tenant). v.usable) as_it_was);
-        time = ap (λ (v : Vcpu). moment (head_of v)) there;
-      }
-    where
-      as_it_was : returned now.0 x ≡ x
-      as_it_was = rests now x s.time sound (ap (λ (v : Vcpu). not (ltb now.0 (head_of v))) (sym read) ∙ e)
-
-      there : get_or p i z ≡ written (returned now.0 x)
-      there = read ∙ ap written (sym as_it_was)
+  pub sweep_small : (t : Told) → t ≡ brought_to now.0 (bare (get_or y.places i z)) → total.ticks.0 + t.ticks.0 < 4294967296
+  sweep_small t f = rw f sweep_fits
 
 ids-kept : (now : ℕ) (vs : List Tenant) → ids_of (bring now vs) ≡ ids_of vs
 ids-kept now vs =
@@ -339,34 +259,48 @@ bring-length now [] = refl
 bring-length now (v ∷ vs) = ap suc (bring-length now vs)
 
 -- when it is done: what has come, the times reported and their total
-pub record Swept (now : Moment) (ids : List Tunnel) (n : ℕ) (p : List Vcpu) (next : List Moment) (total : AllTold) (vs : List Tenant)
-    : Type 0 where
-  pub filled : Filled p ids n (bring now.0 vs)
-  pub heard : next ≡ laid 32 (head_then now.0) (moment never) vs
-  pub sums : total.ticks.0 ≡ totalTold (tell now.0 vs)
+pub record Swept (now : Moment) (x y : Roster) (next : List Moment) (total : AllTold) : Type 0 where
+  pub table : y ≡ returned_table now x
+  pub times : next ≡ times_then now x
+  pub ticks : total ≡ all_told (totalTold (tell now.0 (tenants_in x)))
 
-pub sweep_ends : (now : Moment) (ids : List Tunnel) (n : ℕ) (p₀ p : List Vcpu) (next : List Moment) (total : AllTold) (i : ℕ)
-    → Sweeping now ids n p₀ p next total i → n ≤ i → (vs : List Tenant) → Filled p₀ ids n vs → All Fits vs
-    → Swept now ids n p next total vs
-sweep_ends now ids n p₀ p next total i s h vs f r =
+pub sweep_ends : (now : Moment) (x y : Roster) → Returns now x → (next : List Moment) (total : AllTold) (i : ℕ)
+    → Sweeping now x y next total i → i ≡ x.n → Swept now x y next total
+sweep_ends now x y r next total i s e =
     record {
-      filled = record {
-        places =
-            s.done
-            ∙ ap (λ (k : ℕ). places_of (upto (returned now.0) k (tenants n ids p₀))) ended
-            ∙ ap places_of (upto_all (returned now.0) (tenants n ids p₀) ∙ ap (bring now.0) all);
-        tunnels = f.tunnels ∙ sym (ids-kept now.0 vs);
-        count = f.count ∙ sym (bring-length now.0 vs);
-      };
-      heard = s.heard ∙ ap (laid 32 (head_then now.0) (moment never)) reported;
-      sums = s.sums ∙ ap (λ (l : List Tenant). totalTold (tell now.0 l)) reported;
+      table =
+          s.done
+          ∙ ap (λ (k : ℕ). with_places x (places_of (upto (returned now.0) k (tenants_in x)))) ended
+          ∙ ap (λ (l : List Tenant). with_places x (places_of l)) (upto_all (returned now.0) (tenants_in x));
+      times = s.heard ∙ ap (laid 32 (head_then now.0) (moment never)) all;
+      ticks = s.sums ∙ ap (λ (l : List Tenant). all_told (totalTold (tell now.0 l))) all;
     }
   where
-    all : tenants n ids p₀ ≡ vs
-    all = filled-tenants p₀ ids n vs (omega (arith, f.count, s.few)) (all_show vs r) f
+    ended : i ≡ length (tenants_in x)
+    ended = e ∙ r.filled.count
 
-    ended : i ≡ length (tenants n ids p₀)
-    ended = omega (arith, s.most, s.filled.count)
+    all : take i (tenants_in x) ≡ tenants_in x
+    all = take_all i (tenants_in x) (omega (arith, ended))
 
-    reported : take i (tenants n ids p₀) ≡ vs
-    reported = take_all i (tenants n ids p₀) (omega (arith, ended)) ∙ all
+-- a table that is a list of tenants written, before the step and after it
+pub returns : (now : Moment) (x : Roster) (vs : List Tenant) → now.0 ≤ largest_time → length vs ≤ 32
+    → Filled x.places x.ids x.n vs → All Fits vs → (tenants_in x ≡ vs) × Returns now x
+returns now x vs h l f r =
+    let e : tenants_in x ≡ vs = filled-tenants x.places x.ids x.n vs l (all_show vs r) f in (
+      e,
+      record {
+        filled = subst (Filled x.places x.ids x.n) (sym e) f;
+        fits = subst (All Fits) (sym e) r;
+        few = omega (arith, f.count, l);
+        time = h;
+      },
+    )
+
+pub returned-filled : (now : ℕ) (ids : List Tunnel) (n : ℕ) (p : List Vcpu) (vs us : List Tenant) → us ≡ vs → Filled p ids n vs
+    → Filled (places_of (bring now us)) ids n (bring now vs)
+returned-filled now ids n p vs us e f =
+    record {
+      places = ap (λ (l : List Tenant). places_of (bring now l)) e;
+      tunnels = f.tunnels ∙ sym (ids-kept now vs);
+      count = f.count ∙ sym (bring-length now vs);
+    }

@@ -23,36 +23,12 @@ use Rattle.turns.specs.declared.Kind.TheVariants.{Sporadic, Deferrable, Polling}
 use Rattle.turns.specs.declared.Vcpu.{Vcpu}
 use Rattle.turns.specs.Laid.{laid}
 use Rattle.turns.specs.Written.{never, amount_of, tunnel_of, paper_kind, kind_as, boundary_at, written, entries, shown, tenants}
+use Rattle.turns.specs.Tenants.{Formed, queue, refills, Shows}
 use Rattle.turns.specs.Steps.{has_queue, left_of, boundary_in, queue_as}
 
 -- the tenant under another identifier
 abbrev pub under : ℕ → Tenant → Tenant
-under t v =
-    record {
-      terms = record {
-        tunnel = t;
-        period = v.terms.period;
-        capacity = v.terms.capacity;
-        priority = v.terms.priority;
-        kind = v.terms.kind;
-      };
-      runnable = v.runnable;
-      usable = v.usable;
-      ended = v.ended;
-      pending = v.pending;
-      boundary = v.boundary;
-      pending_total = v.pending_total;
-      held_total = v.held_total;
-    }
-
--- of the kinds, with a queue and no boundary, or with a boundary and no queue
-pub data Formed (v : Tenant) : Type 0 where
-  queue : v.terms.kind ≡ 0 → v.boundary ≡ none → Formed v
-  refills : (v.terms.kind ≡ 0 → ⊥) → v.terms.kind ≤ 2 → v.pending ≡ [] → (b : ℕ) → v.boundary ≡ some b → Formed v
-
--- and with a queue that fits its record
-abbrev pub Shows : Tenant → Type 0
-Shows v = (length v.pending ≤ 8) × Formed v
+under t v = record v { terms = record v.terms { tunnel = t } }
 
 -- the kind that has a number: its queue, what is left of its ticks, and the number again
 pub kind-queue : (n : ℕ) → has_queue (kind_as n) ≡ eqb n 0

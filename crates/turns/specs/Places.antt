@@ -1,6 +1,5 @@
 -- What the parts of a call that look at the table, or shift it, answer. Assumes nothing.
-use Rattle.std.specs.Prelude.{ℕ, zero, suc, min, cond, List, [], ◌∷◌, ◌++◌, ltb, eqb, get_or}
-use Rattle.units.specs.Units.{tunnel}
+use Rattle.std.specs.Prelude.{ℕ, ◌≡◌, ◌-◌, drop, replicate, zero, suc, cond, List, [], ◌∷◌, ◌++◌, ltb, eqb, Option, Some, None}
 use Rattle.units.specs.declared.Tunnel.{Tunnel}
 use Rattle.rules.specs.Limits.{most_vcpus}
 use Rattle.rules.specs.Vcpu.{more_urgent}
@@ -8,10 +7,6 @@ use Rattle.rules.specs.Vcpu.{Description as Terms}
 use Rattle.turns.specs.declared.Vcpu.{Vcpu}
 use Rattle.turns.specs.declared.Change.{Change}
 use Rattle.turns.specs.declared.Change.TheVariants.{Admit, Wake, Block, Remove, Tick}
-use Rattle.turns.specs.declared.Holder.{Holder}
-use Rattle.turns.specs.declared.Holder.TheVariants.{Idle}
-use Rattle.turns.specs.declared.Holder.TheVariants.{Vcpu as Held}
-use Rattle.turns.specs.Written.{idle}
 
 -- behind all places
 abbrev pub nowhere : ℕ
@@ -22,13 +17,9 @@ abbrev pub seek : ℕ → List Tunnel → ℕ
 seek t [] = 0
 seek t (x ∷ xs) = cond (eqb x.0 t) 0 (suc (seek t xs))
 
--- the smaller of two identifiers, of which the second counts from `low` on; and the smallest of all
-abbrev pub nearer_of : ℕ → ℕ → ℕ → ℕ
-nearer_of low best t = cond (ltb t low) best (min best t)
-
-abbrev pub least_in : ℕ → ℕ → List Tunnel → ℕ
-least_in low best [] = best
-least_in low best (x ∷ xs) = least_in low (nearer_of low best x.0) xs
+-- that place, where it is one of the table
+abbrev pub on_table : ℕ → Option ℕ
+on_table k = cond (ltb k nowhere) (Some k) None
 
 -- the place of the VCPU that a call names; a tick names nobody
 abbrev pub named_at : List Tunnel → Change → ℕ
@@ -37,9 +28,6 @@ named_at ids (Wake t) = seek t.0 ids
 named_at ids (Block t) = seek t.0 ids
 named_at ids (Remove t) = seek t.0 ids
 named_at ids Tick = nowhere
-
-abbrev pub holder_of : List Tunnel → ℕ → Holder
-holder_of ids at = cond (ltb at idle) (Held (get_or ids at (tunnel 0))) Idle
 
 -- what urgency looks at; the other terms do not matter
 abbrev pub urgency : ℕ → ℕ → Terms
@@ -66,3 +54,7 @@ module _ {A : Type 0} where
   removed zero z (x ∷ l) = l ++ z ∷ []
   removed (suc k) z [] = []
   removed (suc k) z (x ∷ l) = x ∷ removed k z l
+
+  -- the places from `n` on hold `z`
+  abbrev pub BlankFrom : ℕ → A → List A → Type 0
+  BlankFrom n z l = drop n l ≡ replicate (most_vcpus - n) z

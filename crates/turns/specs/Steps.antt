@@ -1,6 +1,7 @@
 -- What the parts of a call do to the written form, each as its code does it. Private parts promise these; that they are the
 -- rules' steps on what the form shows is proved in proofs/. Assumes nothing.
-use Rattle.std.specs.Prelude.{ℕ, suc, ◌+◌, ◌-◌, ◌%◌, ◌≤◌, ◌<◌, min, ◌≡◌, Bool, true, false, cond, ◌&&◌, List, [], ◌∷◌, ltb, eqb, length, take, get_or, set}
+use Rattle.std.specs.Prelude.{ℕ, ◌+◌, ◌-◌, ◌%◌, ◌≤◌, ◌<◌, ◌≡◌, Bool, true, false, cond, ◌&&◌, List, [], ltb, eqb, ◌++◌, length, take, drop, replicate, take_while, nat_le, sum_by, get_or, set, Some, None}
+use Rattle.std.specs.Prelude.{Option as Held}
 use Rattle.std.proofs.Math.Option.{Option}
 use Rattle.units.specs.Units.{moment, amount, total, tunnel, later, together}
 use Rattle.units.specs.declared.Moment.{Moment}
@@ -9,16 +10,13 @@ use Rattle.units.specs.declared.Total.{Total}
 use Rattle.turns.specs.declared.Kind.{Kind}
 use Rattle.turns.specs.declared.Kind.TheVariants.{Sporadic, Deferrable, Polling}
 use Rattle.turns.specs.declared.Vcpu.{Vcpu}
-use Rattle.turns.specs.declared.Pick.{Pick}
 use Rattle.turns.specs.declared.Told.{Told}
-use Rattle.turns.specs.declared.Brought.{Brought}
-use Rattle.turns.specs.declared.AllTold.{AllTold}
 use Rattle.rules.specs.Limits.{most_pending}
 use Rattle.rules.specs.Lists.{sum}
 use Rattle.rules.specs.Vcpu.{Vcpu as Tenant}
 use Rattle.rules.specs.Return.{returned}
 use Rattle.rules.specs.Told.{tells}
-use Rattle.turns.specs.Written.{never, idle, boundary_at, written, shown, timer_of}
+use Rattle.turns.specs.Written.{never, boundary_at, written, shown}
 
 -- ticks come back by a queue, or at boundaries
 abbrev pub has_queue : Kind → Bool
@@ -34,73 +32,17 @@ left_of Polling runnable ticks = cond runnable ticks (amount 0)
 
 -- the queue's arrays and the count, the end of use, or the usable ticks with the times to come and the mark, anew
 abbrev pub queue_as : Vcpu → List Moment → List Amount → ℕ → Vcpu
-queue_as v ds as' n =
-    record {
-      due = ds;
-      ended = v.ended;
-      held = v.held;
-      amount = as';
-      period = v.period;
-      capacity = v.capacity;
-      usable = v.usable;
-      pending = v.pending;
-      priority = v.priority;
-      runnable = v.runnable;
-      count = n;
-      kind = v.kind;
-    }
+queue_as v ds as' n = record v { due = ds; amount = as'; count = n }
 
 abbrev pub ended_as : Vcpu → Moment → Vcpu
-ended_as v m =
-    record {
-      due = v.due;
-      ended = m;
-      held = v.held;
-      amount = v.amount;
-      period = v.period;
-      capacity = v.capacity;
-      usable = v.usable;
-      pending = v.pending;
-      priority = v.priority;
-      runnable = v.runnable;
-      count = v.count;
-      kind = v.kind;
-    }
+ended_as v m = record v { ended = m }
 
 abbrev pub usable_as : Vcpu → List Moment → Bool → Amount → Vcpu
-usable_as v ds b u =
-    record {
-      due = ds;
-      ended = v.ended;
-      held = v.held;
-      amount = v.amount;
-      period = v.period;
-      capacity = v.capacity;
-      usable = u;
-      pending = v.pending;
-      priority = v.priority;
-      runnable = b;
-      count = v.count;
-      kind = v.kind;
-    }
+usable_as v ds b u = record v { due = ds; usable = u; runnable = b }
 
 -- .., or the totals: both, the pending one or the held one
 abbrev pub totals_as : Vcpu → Amount → Total → Vcpu
-totals_as v a t =
-    record {
-      due = v.due;
-      ended = v.ended;
-      held = t;
-      amount = v.amount;
-      period = v.period;
-      capacity = v.capacity;
-      usable = v.usable;
-      pending = a;
-      priority = v.priority;
-      runnable = v.runnable;
-      count = v.count;
-      kind = v.kind;
-    }
+totals_as v a t = record v { held = t; pending = a }
 
 abbrev pub owing_as : Vcpu → Amount → Vcpu
 owing_as v a = totals_as v a v.held
@@ -150,10 +92,6 @@ took_of v u = usable_as v v.due v.runnable u
 abbrev pub longer_by : Total → Amount → Total
 longer_by t a = together t (total a.0)
 
--- the idle ticks, with those from `last` to `now` where the place is that of nobody
-abbrev pub idled_of : Total → ℕ → Moment → Moment → Total
-idled_of t running last now = cond (ltb running idle) t (together t (total (now.0 - last.0)))
-
 unfoldable pub charged_of : Vcpu → Moment → Moment → Vcpu
 charged_of v last now =
     cond (eqb last.0 now.0) v
@@ -168,30 +106,23 @@ pub record Chargeable (v : Vcpu) (last now : Moment) : Type 0 where
   pub fits : (k : ℕ) → ticks_at v k + v.usable.0 < 4294967296
   pub owed : v.pending.0 + v.usable.0 < 4294967296
 
--- an array of eight with eight times `z` behind it, and eight slots of that from the slot `k` on (`o` is what a read past the end would
--- give)
-abbrev pub wider : {A : Type 0} → A → A → List A → List A
-wider o z l =
-    get_or l 0 o ∷ get_or l 1 o ∷ get_or l 2 o ∷ get_or l 3 o ∷ get_or l 4 o ∷ get_or l 5 o ∷ get_or l 6 o ∷ get_or l 7 o
-    ∷ z ∷ z ∷ z ∷ z ∷ z ∷ z ∷ z ∷ z ∷ []
-
-abbrev pub from_of : {A : Type 0} → A → A → ℕ → List A → List A
-from_of o z k l =
-    get_or (wider o z l) k o ∷ get_or (wider o z l) (k + 1) o ∷ get_or (wider o z l) (k + 2) o ∷ get_or (wider o z l) (k + 3) o
-    ∷ get_or (wider o z l) (k + 4) o ∷ get_or (wider o z l) (k + 5) o ∷ get_or (wider o z l) (k + 6) o ∷ get_or (wider o z l) (k + 7) o ∷ []
+-- an array of eight from the slot `k` on, and `z` behind
+abbrev pub from_of : {A : Type 0} → A → ℕ → List A → List A
+from_of z k l = drop k l ++ replicate k z
 
 -- the ticks of the first `k` slots
 abbrev pub ticks_in : ℕ → List Amount → ℕ
-ticks_in k l = sum (λ a. a.0) (take k l)
+ticks_in k l = sum_by (λ a. a.0) (take k l)
 
+-- how many of the first slots are due
+abbrev pub due_count : Moment → List Moment → ℕ
+due_count now ds = length (take_while (λ d. nat_le d.0 now.0) ds)
+
+-- the first `k` entries taken: they are usable, and are pending no more
 unfoldable pub returned_first : ℕ → Vcpu → Vcpu
 returned_first k v =
-    took_of (queue_as v (from_of (moment 0) (moment never) k v.due) (from_of (amount 0) (amount 0) k v.amount) (v.count - k))
-    (amount (v.usable.0 + ticks_in k v.amount))
-
--- `w`, which is `v` with its due entries brought in, with the pending total that this leaves
-abbrev pub lowered_of : Vcpu → Vcpu → Vcpu
-lowered_of v w = owing_as w (amount (v.pending.0 - (w.usable.0 - v.usable.0)))
+    owing_as (took_of (queue_as v (from_of (moment never) k v.due) (from_of (amount 0) k v.amount) (v.count - k))
+    (amount (v.usable.0 + ticks_in k v.amount))) (amount (v.pending.0 - ticks_in k v.amount))
 
 -- the next time that something comes
 abbrev pub head_of : Vcpu → ℕ
@@ -205,6 +136,10 @@ latest_of v = cond (eqb v.count 0) (head_of v) (get_or v.due (v.count - 1) (mome
 abbrev pub boundary_in : Vcpu → Option ℕ
 boundary_in v = boundary_at v.kind (moment (head_of v))
 
+-- .., as the code tells it
+abbrev pub boundary_held : Vcpu → Held Moment
+boundary_held v = cond (has_queue v.kind) None (Some (moment (head_of v)))
+
 -- the ticks from `now` to the first of the moments b, b + T, b + 2T .. after it
 abbrev pub until_next : Moment → Moment → Amount → Amount
 until_next b now T = amount (T.0 - (now.0 - b.0) % T.0)
@@ -214,47 +149,13 @@ refilled_of v now =
     usable_as v (set v.due 0 (later now (until_next (moment (head_of v)) now v.period))) v.runnable
     (left_of v.kind v.runnable v.capacity)
 
-abbrev pub ready_of : Vcpu → Bool
-ready_of v = v.runnable && ltb 0 v.usable.0
-
--- the time reported of one that is runnable
-abbrev pub waits_of : Bool → Moment → ℕ
-waits_of runnable t = cond runnable t.0 never
-
--- one place more, `t` being the time reported of it; of the ready one that is its own next boundary
-unfoldable pub picked_of : Pick → ℕ → Vcpu → Moment → Pick
-picked_of k j v t =
-    cond (ltb k.at idle) k
-    (cond (ready_of v) (record { at = j; usable = v.usable; soon = moment (min k.soon.0 (timer_of (boundary_at v.kind t))) })
-    (record { at = idle; usable = k.usable; soon = moment (min k.soon.0 (waits_of v.runnable t)) }))
-
--- all places from `j` on, each with the time reported of it
-abbrev pub picks : Pick → ℕ → List Vcpu → List Moment → Pick
-picks k j [] ts = k
-picks k j (v ∷ vs) [] = k
-picks k j (v ∷ vs) (t ∷ ts) = picks (picked_of k j v t) (suc j) vs ts
-
-unfoldable pub timer_for : Moment → Pick → Moment
-timer_for now k = cond (ltb k.at idle) (moment (min (later now k.usable).0 k.soon.0)) k.soon
-
 -- the tenant that a record shows where its identifier does not matter
 abbrev pub bare : Vcpu → Tenant
 bare v = shown (tunnel 0) v
 
--- where nothing is due; and the return step of a tenant, with what it reports of it
-abbrev pub rests_of : Vcpu → Told
-rests_of v = record { ticks = amount 0; next = moment (head_of v) }
-
-abbrev pub brought_to : ℕ → Tenant → Brought
-brought_to now v =
-    record {
-      vcpu = written (returned now v);
-      told = record { ticks = amount (tells now v).ticks; next = moment (head_of (written (returned now v))) };
-    }
-
--- what the reports come to
-abbrev pub all_told : ℕ → AllTold
-all_told n = record { ticks = amount n }
+-- what the return step reports of a tenant
+abbrev pub brought_to : ℕ → Tenant → Told
+brought_to now v = record { ticks = amount (tells now v).ticks; next = moment (head_of (written (returned now v))) }
 
 -- what the return step asks: a written record whose ticks fit, with a queue or with a period and no more ticks than a refill leaves, and
 -- a moment that a period does not carry to the one above all

@@ -1,7 +1,8 @@
 -- The state of the core read as the rules' card, and the card written as the core's state.
 -- Assumes nothing.
-use Rattle.std.specs.Prelude.{ℕ, zero, suc, false, cond, List, [], ◌∷◌, ltb, eqb, length, get_or}
+use Rattle.std.specs.Prelude.{ℕ, zero, suc, false, cond, List, [], ◌∷◌, eqb, length, get_or}
 use Rattle.std.proofs.Math.Option.{Option, none, some}
+use Rattle.std.specs.Prelude.{Option as Opt, Some, None}
 use Rattle.units.specs.Units.{moment, amount, total, tunnel, last_moment}
 use Rattle.units.specs.declared.Moment.{Moment}
 use Rattle.units.specs.declared.Amount.{Amount}
@@ -15,10 +16,11 @@ use Rattle.turns.specs.declared.Kind.{Kind}
 use Rattle.turns.specs.declared.Kind.TheVariants.{Sporadic, Deferrable, Polling}
 use Rattle.turns.specs.declared.Vcpu.{Vcpu}
 use Rattle.turns.specs.declared.Memory.{Memory}
-use Rattle.turns.specs.declared.Core.{Core}
+use Rattle.turns.specs.declared.Roster.{Roster}
+use Rattle.turns.specs.declared.Core.TheInside.{Inside}
 use Rattle.turns.specs.Laid.{laid}
 
--- a time above all, for an unused slot and for no timer
+-- a time above all, for an unused slot and where nothing comes
 abbrev pub never : ℕ
 never = last_moment
 
@@ -26,9 +28,27 @@ never = last_moment
 abbrev pub nobody : ℕ
 nobody = 4294967295
 
--- the place of nobody: idle
-abbrev pub idle : ℕ
-idle = most_vcpus
+-- what the code's option holds, by its number; and the other way, the option of a number
+module _ {A : Type 0} where
+  abbrev pub number_by : (A → ℕ) → Opt A → Option ℕ
+  number_by f None = none
+  number_by f (Some a) = some (f a)
+
+  abbrev pub said_by : (ℕ → A) → Option ℕ → Opt A
+  said_by f none = None
+  said_by f (some n) = Some (f n)
+
+abbrev pub number_in : Opt Tunnel → Option ℕ
+number_in o = number_by (λ t. t.0) o
+
+abbrev pub moment_in : Opt Moment → Option ℕ
+moment_in o = number_by (λ m. m.0) o
+
+abbrev pub number_said : Option ℕ → Opt Tunnel
+number_said o = said_by tunnel o
+
+abbrev pub moment_said : Option ℕ → Opt Moment
+moment_said o = said_by moment o
 
 abbrev pub amount_of : Entry → Amount
 amount_of e = amount e.amount
@@ -118,9 +138,12 @@ tenants (suc n) [] vs = []
 tenants (suc n) (t ∷ ts) [] = []
 tenants (suc n) (t ∷ ts) (v ∷ vs) = shown t v ∷ tenants n ts vs
 
-abbrev pub running_at : ℕ → List Tunnel → Option ℕ
-running_at at ids = cond (ltb at idle) (some (get_or ids at (tunnel nobody)).0) none
+-- who stands at a place
+abbrev pub running_at : Opt ℕ → List Tunnel → Option ℕ
+running_at None ids = none
+running_at (Some at) ids = some (get_or ids at (tunnel nobody)).0
 
+-- a time, or none where it is the one above all
 abbrev pub timer_at : ℕ → Option ℕ
 timer_at t = cond (eqb t never) none (some t)
 
@@ -135,16 +158,20 @@ slots (suc n) (t ∷ ts) (m ∷ ms) = record { tunnel = t.0; time = m.0 } ∷ sl
 abbrev pub memories : Memory → List Remembered
 memories m = slots m.count m.ids m.until
 
+-- the VCPUs that a table shows
+abbrev pub tenants_in : Roster → List Tenant
+tenants_in x = tenants x.n x.ids x.places
+
 -- the card that a core shows
-unfoldable pub card : Core → Card
+unfoldable pub card : Inside → Card
 card c =
     record {
       last = c.last.0;
-      running = running_at c.running c.ids;
-      timer = timer_at c.timer.0;
-      vcpus = tenants c.n c.ids c.places;
-      remembered = memories c.memory;
-      removed = c.removed.0;
+      running = running_at c.running c.table.ids;
+      timer = moment_in c.timer;
+      vcpus = tenants_in c.table;
+      remembered = memories c.table.memory;
+      removed = c.table.removed.0;
       idle = c.idle.0;
     }
 
@@ -153,9 +180,9 @@ abbrev pub place : ℕ → List Tenant → ℕ
 place t [] = 0
 place t (v ∷ vs) = cond (named t v) 0 (suc (place t vs))
 
-abbrev pub place_of : Option ℕ → List Tenant → ℕ
-place_of none vs = idle
-place_of (some t) vs = place t vs
+abbrev pub place_of : Option ℕ → List Tenant → Opt ℕ
+place_of none vs = None
+place_of (some t) vs = Some (place t vs)
 
 abbrev pub timer_of : Option ℕ → ℕ
 timer_of none = never
@@ -176,17 +203,24 @@ memory_of rs =
       count = length rs;
     }
 
+-- the arrays that the VCPUs and their identifiers are written as
+abbrev pub places_of : List Tenant → List Vcpu
+places_of vs = laid most_vcpus written (written no_tenant) vs
+
+abbrev pub ids_of : List Tenant → List Tunnel
+ids_of vs = laid most_vcpus tunnel_of (tunnel nobody) vs
+
+abbrev pub table_of : List Tenant → List Remembered → ℕ → Roster
+table_of vs rs gone =
+    record { places = places_of vs; ids = ids_of vs; memory = memory_of rs; removed = total gone; n = length vs }
+
 -- the core that a card is written as
-unfoldable pub core_of : Card → Core
+unfoldable pub core_of : Card → Inside
 core_of k =
     record {
-      places = laid most_vcpus written (written no_tenant) k.vcpus;
+      table = table_of k.vcpus k.remembered k.removed;
       last = moment k.last;
-      ids = laid most_vcpus tunnel_of (tunnel nobody) k.vcpus;
-      timer = moment (timer_of k.timer);
-      memory = memory_of k.remembered;
-      removed = total k.removed;
-      idle = total k.idle;
+      timer = moment_said k.timer;
       running = place_of k.running k.vcpus;
-      n = length k.vcpus;
+      idle = total k.idle;
     }

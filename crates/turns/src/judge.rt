@@ -1,147 +1,132 @@
 // The reply numbers, rows 1 to 12. `at` is the place of the VCPU that the call names: a refused call does not touch the table.
 ghost use Rattle.std.specs.Prelude.{◌≡◌, ◌+◌, ◌≤◌};
 ghost use Rattle.rules.specs.Limits.{most_vcpus, in_range};
-ghost use Rattle.turns.specs.Judge.{refuse, judge_terms, judge_place, judge_admit, judge_naming, judge_call};
+ghost use Rattle.rules.specs.Remember.{kept};
+ghost use Rattle.turns.specs.Written.{memories};
+ghost use Rattle.turns.specs.Judge.{Verdict, passes, judge_terms, judge_place, judge_admit, judge_naming, judge_call};
 ghost use Rattle.turns.specs.Judge.{judge as judgeRows};
-ghost use Rattle.turns.specs.Remembered.{Fixed};
+ghost use Rattle.turns.specs.Remembered.{Judges};
 
 use crate::{
-    Change, Description, LARGEST_KIND, LARGEST_PERIOD, LARGEST_TIME, LARGEST_TUNNEL, MOST_VCPUS,
-    Memory, NEVER, NOWHERE, Refusal, Verdict, remember,
+    Change, Description, Kind, LARGEST_PERIOD, LARGEST_TIME, LARGEST_TUNNEL, MOST_VCPUS, Refusal,
+    Roster,
 };
 use units::{Moment, Tunnel};
-
-fn refused(number: u8, detail: u64) -> Verdict
-    ensures { result ≡ refuse number detail }
-{
-    Verdict::Refuse(Refusal { number, detail })
-}
 
 fn in_range(period: u32) -> bool
     ensures { result ≡ in_range period }
 {
-    if period < 1 {
-        return false;
-    }
-    period <= LARGEST_PERIOD
+    1 <= period && period <= LARGEST_PERIOD
 }
 
 // Rows 4, 5, 11, 12 and 10 of an admit: what it asks for.
-fn judged_terms(d: Description) -> Verdict
-    ensures { result ≡ judge_terms d Verdict.Accept }
+#[tactic(auto, unfolding(crate::specs::Judge::judge_terms))]
+fn judged_terms(d: Description) -> Result<(), Refusal>
+    ensures { result ≡ judge_terms d passes }
 {
-    let id = d.tunnel;
-    let period = d.period;
-    let capacity = d.capacity;
-    let wide = LARGEST_TUNNEL < id.number();
-    if wide {
-        return refused(4, 0);
+    if LARGEST_TUNNEL < d.tunnel.number() {
+        return Err(Refusal::BadTunnel);
     }
-    let t = period.ticks();
-    let c = capacity.ticks();
-    let fits = in_range(t);
-    if !fits {
-        return refused(5, 0);
+    if !in_range(d.period.ticks()) {
+        return Err(Refusal::BadPeriod);
     }
-    let zero = c == 0;
-    if zero {
-        return refused(11, 0);
+    if d.capacity.ticks() == 0 {
+        return Err(Refusal::NoCapacity);
     }
-    let above = t < c;
-    if above {
-        return refused(12, 0);
+    if d.period < d.capacity {
+        return Err(Refusal::CapacityAbovePeriod);
     }
-    let unknown = LARGEST_KIND < d.kind;
-    if unknown {
-        return refused(10, 0);
-    }
-    Verdict::Accept
+    Kind::try_from(d.kind)?;
+    Ok(())
 }
 
-// Rows 6, 9 and 8: its place. `memory` has those remembered at the call's time.
-fn judged_place(at: usize, n: usize, memory: Memory, id: Tunnel) -> Verdict
-    requires fixed { Fixed memory }
-    requires count_bound { n + memory.count ≤ most_vcpus }
-    ensures { result ≡ judge_place at n memory id.0 }
+// Rows 6, 9 and 8: its place, among those who are remembered at the call's time.
+// (`Judges` is a clause, here and below: the core's invariant holds it, and a roster has none of its own, since it is changed step by step.)
+#[tactic(auto, using(crate::proofs::Remembered::kept_again), unfolding(crate::specs::Judge::judge_place))]
+fn judged_place(at: Option<usize>, table: &Roster, now: Moment, id: Tunnel) -> Result<(), Refusal>
+    requires { Judges table.now }
+    ensures { result ≡ judge_place at table.now.n (kept now.0 (memories table.now.memory)) id.0 }
 {
-    let there = at < NOWHERE;
-    if there {
-        return refused(6, 0);
+    if at.is_some() {
+        return Err(Refusal::OnCard);
     }
-    let until = remember::time_of(memory, id).ticks();
-    let remembered = until < NEVER;
-    if remembered {
-        return refused(9, until);
+    // A copy, since a refused call leaves the table as it was; few calls are admits that come so far.
+    let mut memory = table.memory;
+    memory.keep(now);
+    if let Some(until) = memory.time_of(id) {
+        return Err(Refusal::Remembered(until));
     }
-    let full = MOST_VCPUS <= n + memory.count;
-    if full {
-        return refused(8, 0);
+    if MOST_VCPUS <= table.n + memory.count {
+        return Err(Refusal::Full);
     }
-    Verdict::Accept
+    Ok(())
 }
 
-fn judged_admit(at: usize, n: usize, memory: Memory, d: Description) -> Verdict
-    requires fixed { Fixed memory }
-    requires count_bound { n + memory.count ≤ most_vcpus }
-    ensures { result ≡ judge_admit at n memory d }
+#[tactic(auto, using(crate::proofs::Rows::terms_then))]
+fn judged_admit(
+    at: Option<usize>,
+    table: &Roster,
+    now: Moment,
+    d: Description,
+) -> Result<(), Refusal>
+    requires { Judges table.now }
+    ensures { result ≡ judge_admit at table.now.n (kept now.0 (memories table.now.memory)) d }
 {
-    let terms = judged_terms(d);
-    match terms {
-        Verdict::Accept => judged_place(at, n, memory, d.tunnel),
-        Verdict::Refuse(refusal) => Verdict::Refuse(refusal),
-    }
+    judged_terms(d)?;
+    judged_place(at, table, now, d.tunnel)
 }
 
-fn judged_naming(at: usize, id: Tunnel) -> Verdict
+#[tactic(auto, unfolding(crate::specs::Judge::judge_naming))]
+fn judged_naming(at: Option<usize>, id: Tunnel) -> Result<(), Refusal>
     ensures { result ≡ judge_naming at id.0 }
 {
-    let wide = LARGEST_TUNNEL < id.number();
-    if wide {
-        return refused(4, 0);
+    if LARGEST_TUNNEL < id.number() {
+        return Err(Refusal::BadTunnel);
     }
-    let absent = NOWHERE <= at;
-    if absent {
-        return refused(7, 0);
+    if at.is_none() {
+        return Err(Refusal::NotOnCard);
     }
-    Verdict::Accept
+    Ok(())
 }
 
-fn judged_call(at: usize, n: usize, memory: Memory, change: Change) -> Verdict
-    requires fixed { Fixed memory }
-    requires count_bound { n + memory.count ≤ most_vcpus }
-    ensures { result ≡ judge_call at n memory change }
-{
-    match change {
-        Change::Admit(d) => judged_admit(at, n, memory, d),
-        Change::Wake(id) => judged_naming(at, id),
-        Change::Block(id) => judged_naming(at, id),
-        Change::Remove(id) => judged_naming(at, id),
-        Change::Tick => Verdict::Accept,
-    }
-}
-
-pub(crate) fn judged(
-    last: Moment,
-    timer: Moment,
-    at: usize,
-    n: usize,
-    memory: Memory,
+fn judged_call(
+    at: Option<usize>,
+    table: &Roster,
     now: Moment,
     change: Change,
-) -> Verdict
-    requires fixed { Fixed memory }
-    requires count_bound { n + memory.count ≤ most_vcpus }
-    ensures { result ≡ judgeRows last timer at n memory now change }
+) -> Result<(), Refusal>
+    requires { Judges table.now }
+    ensures { result ≡ judge_call at table.now.n (kept now.0 (memories table.now.memory)) change }
 {
-    let above = LARGEST_TIME < now.ticks();
-    if above {
-        return refused(1, 0);
+    match change {
+        Change::Admit(d) => judged_admit(at, table, now, d),
+        Change::Wake(id) | Change::Block(id) | Change::Remove(id) => judged_naming(at, id),
+        Change::Tick => Ok(()),
     }
-    if now.before(last) {
-        return refused(2, 0);
+}
+
+#[tactic(auto, unfolding(crate::specs::Judge::judge))]
+pub(crate) fn judged(
+    last: Moment,
+    timer: Option<Moment>,
+    at: Option<usize>,
+    table: &Roster,
+    now: Moment,
+    change: Change,
+) -> Result<(), Refusal>
+    requires { Judges table.now }
+    ensures { result ≡ judgeRows last timer at table.now now change }
+{
+    if LARGEST_TIME < now.ticks() {
+        return Err(Refusal::BadTime);
     }
-    if timer.before(now) {
-        return refused(3, timer.ticks());
+    if now < last {
+        return Err(Refusal::BeforeLast);
     }
-    judged_call(at, n, memory, change)
+    if let Some(time) = timer
+        && time < now
+    {
+        return Err(Refusal::PastTimer(time));
+    }
+    judged_call(at, table, now, change)
 }

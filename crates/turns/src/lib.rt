@@ -5,6 +5,7 @@ mod judge;
 mod remember;
 mod steps;
 mod table;
+mod tenants;
 
 ghost use Rattle.std.specs.Prelude.{◌≡◌, length};
 ghost use Rattle.rules.specs.Card.{empty as emptyCard};
@@ -12,11 +13,11 @@ ghost use Rattle.rules.specs.Card.{find as findRule};
 ghost use Rattle.rules.specs.Card.{on_card, first_from};
 ghost use Rattle.rules.specs.Remember.{time_of};
 ghost use Rattle.rules.specs.Turn.{turn as turnRule};
-ghost use Rattle.turns.specs.Written.{card, core_of};
-ghost use Rattle.turns.specs.State.{ValidCore};
-ghost use Rattle.turns.specs.Calls.{call_of, paper_reply, paper_holder, paper_timer, looked, boundary_of};
-ghost use Rattle.turns.specs.Calls.{paper_presence, paper_remembered, paper_boundary, paper_found};
+ghost use Rattle.turns.specs.Written.{number_in, moment_in};
+ghost use Rattle.turns.specs.Calls.{call_of, number_of, detail_of, paper_reply, looked, boundary_of};
+ghost use Rattle.turns.specs.Calls.{paper_presence, paper_remembered};
 
+use std::marker::Model;
 use units::{Amount, LAST_MOMENT, Moment, Total, Tunnel};
 
 // The limits of the card.
@@ -26,25 +27,17 @@ const LARGEST_TIME: u64 = 1000000000000;
 
 const LARGEST_PERIOD: u32 = 1000000;
 
-const LARGEST_KIND: u8 = 2;
-
 const MOST_VCPUS: usize = 32;
 
 const MOST_PENDING: u8 = 8;
 
-// A time above all: the due time of an unused slot, and the timer where there is none.
+// A time above all: the due time of an unused slot, and of what is reported where nothing comes.
 const NEVER: u64 = LAST_MOMENT;
 // The identifier of a vacant place, above 24 bits.
 const NOBODY: u32 = 4294967295;
-// The place of the holder in idle.
-const IDLE: usize = MOST_VCPUS;
-// The place of an identifier that is not on the card.
-const NOWHERE: usize = MOST_VCPUS;
-
-const LAST_PLACE: usize = MOST_VCPUS - 1;
 
 // The whole VCPU description that an admit carries; the kind is the byte that was asked for, since an unknown one is refused.
-#[derive(Clone, Copy)]
+#[derive(Clone, Copy, Debug, PartialEq, Eq)]
 pub struct Description {
     pub tunnel: Tunnel,
     pub period: Amount,
@@ -54,7 +47,7 @@ pub struct Description {
 }
 
 // What a call asks for.
-#[derive(Clone, Copy)]
+#[derive(Clone, Copy, Debug, PartialEq, Eq)]
 pub enum Change {
     Admit(Description),
     Wake(Tunnel),
@@ -63,50 +56,44 @@ pub enum Change {
     Tick,
 }
 
-// A row of the table of reply numbers; the detail is a plain number, since its meaning is the row's.
-#[derive(Clone, Copy)]
-pub struct Refusal {
-    pub number: u8,
-    pub detail: u64,
+// The rows of the table of reply numbers that a call may be refused by, in the order of their numbers. Row 3 tells the timer, and row 9
+// the time until which the identifier is remembered.
+#[derive(Clone, Copy, Debug, PartialEq, Eq)]
+pub enum Refusal {
+    BadTime,
+    BeforeLast,
+    PastTimer(Moment),
+    BadTunnel,
+    BadPeriod,
+    OnCard,
+    NotOnCard,
+    Full,
+    Remembered(Moment),
+    BadKind,
+    NoCapacity,
+    CapacityAbovePeriod,
 }
 
-// Who holds the core.
-#[derive(Clone, Copy)]
-pub enum Holder {
-    Idle,
-    Vcpu(Tunnel),
-}
-
-#[derive(Clone, Copy)]
-pub enum Timer {
-    Unset,
-    At(Moment),
-}
-
-// What an accepted call answers; `brought` are the ticks that came back to all VCPUs together.
-#[derive(Clone, Copy)]
+// What an accepted call answers: who holds the core, or nobody, and the timer if there is one; `brought` are the ticks that came back to
+// all VCPUs together.
+#[derive(Clone, Copy, Debug, PartialEq, Eq)]
 pub struct Report {
     pub time: Moment,
-    pub run: Holder,
+    pub run: Option<Tunnel>,
     pub usable: Amount,
-    pub timer: Timer,
+    pub timer: Option<Moment>,
     pub brought: Amount,
 }
 
-#[derive(Clone, Copy)]
-pub enum Reply {
-    Done(Report),
-    No(Refusal),
-}
-
+// A call by value: the state handed back, and the reply.
 #[derive(Clone, Copy)]
 pub struct Answer {
     pub core: Core,
-    pub reply: Reply,
+    pub reply: Result<Report, Refusal>,
 }
 
 // What a VCPU on the card is: 0, 1 and 2 of document 02.
-#[derive(Clone, Copy)]
+#[derive(Clone, Copy, Debug, PartialEq, Eq)]
 pub enum Kind {
     Sporadic,
     Deferrable,
@@ -116,6 +103,8 @@ pub enum Kind {
 // A VCPU on the card: the first `count` slots hold the pending returns in order, the others a time above all and no ticks. The first
 // slot of a deferrable or polling VCPU, which has no queue, holds its next boundary: `due[0]` is the next time that something comes.
 // `pending` is the sum of the amounts, `held` the ticks held since its admission; no reply depends on them. 136 bytes, 4 of them a gap.
+// Arrays of eight with a count are the form that document 01 names.
+// (Clone and Copy alone, of every type of this file that has no more: nobody compares or prints them.)
 #[derive(Clone, Copy)]
 pub struct Vcpu {
     pub due: [Moment; 8],
@@ -132,34 +121,21 @@ pub struct Vcpu {
     pub kind: Kind,
 }
 
-// Whether an identifier is on the card, or left it and is remembered, until that time.
-#[derive(Clone, Copy)]
+// Whether an identifier is on the card, or left it and is remembered, until that time: three cases, which no Option has.
+#[derive(Clone, Copy, Debug, PartialEq, Eq)]
 pub enum Presence {
     OnCard,
     Remembered(Moment),
     Absent,
 }
 
-// The next boundary, which a sporadic VCPU has not.
-#[derive(Clone, Copy)]
-pub enum Boundary {
-    Unset,
-    At(Moment),
-}
-
-// An identifier on the card, or none.
-#[derive(Clone, Copy)]
-pub enum Found {
-    Nobody,
-    Tenant(Tunnel),
-}
-
-// Everything of one VCPU, and its next boundary; where there is none, the record of a vacant place.
+// Everything of one VCPU, and its next boundary, which a sporadic VCPU has not; where there is none, the record of a vacant place.
+// (No Option of a record: clause `vcpu_is` promises that of a vacant place.)
 #[derive(Clone, Copy)]
 pub struct Look {
     pub presence: Presence,
     pub vcpu: Vcpu,
-    pub boundary: Boundary,
+    pub boundary: Option<Moment>,
 }
 
 // The card: the time of the last accepted call, who runs, the timer, how many VCPUs are on it, how many identifiers it remembers, the ticks
@@ -167,8 +143,8 @@ pub struct Look {
 #[derive(Clone, Copy)]
 pub struct Status {
     pub time: Moment,
-    pub run: Holder,
-    pub timer: Timer,
+    pub run: Option<Tunnel>,
+    pub timer: Option<Moment>,
     pub vcpus: usize,
     pub remembered: usize,
     pub removed: Total,
@@ -176,332 +152,269 @@ pub struct Status {
 }
 
 // The identifiers remembered: the first `count` slots hold them in the order of their removals, each with its time; the others hold the
-// identifier of nobody and a time above all. It is public because a core is, within which it lies.
+// identifier of nobody and a time above all. Identifiers stand apart, so that one search serves the table and these.
 #[derive(Clone, Copy)]
-pub struct Memory {
+struct Memory {
     until: [Moment; MOST_VCPUS],
     ids: [Tunnel; MOST_VCPUS],
     count: usize,
 }
 
-// The first `n` places are in use, the most urgent first. The order of the fields keeps a copy of the table away.
+// What steps 1 to 3 change: the VCPUs, the most urgent first, in the first `n` places, each with its identifier beside it; who is
+// remembered, and the ticks that removed tenants held. Identifiers stand apart, so that a search reads 128 bytes and not 4,352. Arrays with
+// a count, since the scheduler uses no heap.
 #[derive(Clone, Copy)]
-pub struct Core {
+struct Roster {
     places: [Vcpu; MOST_VCPUS],
-    last: Moment,
     ids: [Tunnel; MOST_VCPUS],
-    timer: Moment,
     memory: Memory,
     removed: Total,
-    idle: Total,
-    running: usize,
     n: usize,
 }
 
-// What the return step reports of a VCPU: the ticks that it brought, and the next time that something comes to it, or a time above all.
+// The card, and all that a host keeps of it between two calls. A contract sees it as the rules' card.
+#[derive(Clone, Copy)]
+pub struct Core {
+    table: Roster,
+    last: Moment,
+    timer: Option<Moment>,
+    running: Option<usize>,
+    idle: Total,
+}
+
+impl Model for Core {
+    ghost use Rattle.rules.specs.Card.{Card};
+
+    ghost Value = { Card };
+
+    ghost use Rattle.std.specs.Prelude.{◌≡◌};
+    ghost use Rattle.std.proofs.Common.{sym};
+    ghost use Rattle.turns.specs.Written.{card, core_of};
+    ghost use Rattle.turns.specs.State.{IsCore};
+
+    ghost view = { card };
+
+    // Its fields are what its card is written as, so equal cards have equal bytes; and the card is one that calls make.
+    ghost invariant = { IsCore };
+
+    ghost inverse = { core_of };
+
+    ghost inverse_ok = { λ c h. sym h.written };
+}
+
+// What the return step reports of a VCPU: the ticks that it brought, and the next time that something comes to it, or a time above all
+// (an enum in its place was slower in every run: docs/landings/11).
 #[derive(Clone, Copy)]
 struct Told {
     ticks: Amount,
     next: Moment,
 }
 
-// What the reports come to together. A struct of its own, so that a number more to report changes `steps` and not the loop in `turn`.
+// What the reports come to together. A struct of its own, so that a number more to report changes `together` and not the loop over the places.
 #[derive(Clone, Copy)]
 struct AllTold {
     ticks: Amount,
 }
 
-// A VCPU to which something came, and what is reported of it.
-#[derive(Clone, Copy)]
-struct Brought {
-    vcpu: Vcpu,
-    told: Told,
-}
-
 // What a look at the places so far has found: the first ready one, its usable ticks, and the next time that something comes to those
-// before it, or that is its own boundary.
+// before it, or that is its own boundary, or a time above all, as in Told.
 #[derive(Clone, Copy)]
 struct Pick {
-    at: usize,
+    at: Option<usize>,
     usable: Amount,
     soon: Moment,
 }
 
-#[derive(Clone, Copy)]
-enum Verdict {
-    Accept,
-    Refuse(Refusal),
+// Each refusal has its own rows, and nothing is generic over them: a trait of `number` and `detail` would be one name more.
+impl Refusal {
+    // The row's number.
+    pub fn number(self) -> u8
+        ensures { result ≡ number_of self }
+    {
+        match self {
+            Refusal::BadTime => 1,
+            Refusal::BeforeLast => 2,
+            Refusal::PastTimer(_) => 3,
+            Refusal::BadTunnel => 4,
+            Refusal::BadPeriod => 5,
+            Refusal::OnCard => 6,
+            Refusal::NotOnCard => 7,
+            Refusal::Full => 8,
+            Refusal::Remembered(_) => 9,
+            Refusal::BadKind => 10,
+            Refusal::NoCapacity => 11,
+            Refusal::CapacityAbovePeriod => 12,
+        }
+    }
+
+    // What the row tells beside its number; 0 for most.
+    pub fn detail(self) -> u64
+        ensures { result ≡ detail_of self }
+    {
+        match self {
+            Refusal::PastTimer(time) | Refusal::Remembered(time) => time.ticks(),
+            _ => 0,
+        }
+    }
+}
+
+impl TryFrom<u8> for Kind {
+    type Error = Refusal;
+
+    ghost use Rattle.turns.specs.Calls.{kind_gives};
+
+    ghost try_from_gives = { kind_gives };
+
+    fn try_from(kind: u8) -> Result<Self, Refusal> {
+        match kind {
+            0 => Ok(Kind::Sporadic),
+            1 => Ok(Kind::Deferrable),
+            2 => Ok(Kind::Polling),
+            _ => Err(Refusal::BadKind),
+        }
+    }
 }
 
 impl Core {
     pub fn empty() -> Self
-        ensures { (result ≡ core_of emptyCard) × ValidCore result }
+        ensures { result ≡ emptyCard }
     {
-        let v = steps::vacant();
-        let id = Tunnel::new(NOBODY);
         Core {
-            places: [v; MOST_VCPUS],
+            table: Roster {
+                places: [Vcpu::vacant(); MOST_VCPUS],
+                ids: [Tunnel::new(NOBODY); MOST_VCPUS],
+                memory: Memory::blank(),
+                removed: Total::new(0),
+                n: 0,
+            },
             last: Moment::new(0),
-            ids: [id; MOST_VCPUS],
-            timer: Moment::new(NEVER),
-            memory: remember::blank(),
-            removed: Total::new(0),
+            timer: None,
+            running: None,
             idle: Total::new(0),
-            running: IDLE,
-            n: 0,
         }
     }
 
-    // One function for the five calls, with its loops and the table in it: a function that takes the table costs a copy of it.
-    pub fn turn(self, now: Moment, change: Change) -> Answer
-        requires { ValidCore self }
-        ensures reply_is { paper_reply result.reply ≡ (turnRule (card self) (call_of now change)).reply }
-        ensures core_is { (result.core ≡ core_of (turnRule (card self) (call_of now change)).card) × ValidCore result.core }
+    // One function for the five calls, on the state in place: no call copies it.
+    pub fn step(&mut self, now: Moment, change: Change) -> Result<Report, Refusal>
+        ensures reply_is { paper_reply result ≡ (turnRule self.old (call_of now change)).reply }
+        ensures core_is { self.new ≡ (turnRule self.old (call_of now change)).card }
     {
-        let last = self.last;
-        let mut ids = self.ids;
-        let mut n = self.n;
         // Sought once, for the rows and for the change; the rows need no more of the identifiers.
-        let at = table::named(ids, change);
-        // Who is remembered at the call's time, for the rows and for the state after it. Asked here, so that a card that remembers nobody
-        // is not copied once more.
-        let mut memory = self.memory;
-        if 0 < memory.count {
-            memory = remember::kept(memory, now);
-        }
-        let verdict = judge::judged(last, self.timer, at, n, memory, now, change);
-        match verdict {
-            Verdict::Accept => {}
-            Verdict::Refuse(refusal) => {
-                return Answer {
-                    core: self,
-                    reply: Reply::No(refusal),
-                };
-            }
-        }
-        let mut p = self.places;
-        let running = self.running;
-        let mut removed = self.removed;
-        let idle = steps::idled(self.idle, running, last, now);
-        // 1. Charge; in idle nobody is charged.
-        if running < n {
-            let v = p[running];
-            p[running] = steps::charged(v, last, now);
-        }
-        // 2. Return or refill, for every VCPU, runnable or not. Each reports; one that is not due is not written back.
-        let never = Moment::new(NEVER);
-        let mut next = [never; MOST_VCPUS];
-        let mut total = steps::nothing();
-        let mut i = 0;
-        while i < n {
-            let v = p[i];
-            let mut told = steps::at_rest(v);
-            if steps::due_by(v, now) {
-                let back = steps::returned(v, now);
-                let w = back.vcpu;
-                told = back.told;
-                p[i] = w;
-            }
-            let soon = told.next;
-            next[i] = soon;
-            total = steps::together(total, told);
-            i += 1;
-        }
-        // 3. Change.
-        match change {
-            Change::Admit(d) => {
-                let k = table::spot(p, ids, n, d);
-                let v = steps::admitted(d, now);
-                let id = d.tunnel;
-                let wider = table::with_vcpu(p, k, v);
-                let longer = table::with_id(ids, k, id);
-                let later = table::with_time(next, k, never);
-                p = wider;
-                ids = longer;
-                next = later;
-                n += 1;
-            }
-            Change::Wake(_) => {
-                let v = p[at];
-                p[at] = steps::runnable_as(v, true);
-            }
-            Change::Block(_) => {
-                let v = p[at];
-                p[at] = steps::runnable_as(v, false);
-            }
-            Change::Remove(id) => {
-                let v = p[at];
-                let left = remember::leaving(memory, id, v);
-                let over = removed.plus(v.held);
-                let closed = table::without_vcpu(p, at, steps::vacant());
-                let shorter = table::without_id(ids, at, Tunnel::new(NOBODY));
-                let fewer = table::without_time(next, at, never);
-                p = closed;
-                ids = shorter;
-                next = fewer;
-                memory = left;
-                removed = over;
-                n -= 1;
-            }
-            Change::Tick => {}
-        }
-        // 4. Choose: the first ready one, since the table is in the order of urgency. The scan goes on to the last place in use, so that
-        // a call's work depends on how many there are and not on who is ready.
-        let mut pick = Pick {
-            at: IDLE,
-            usable: Amount::new(0),
-            soon: never,
-        };
-        let mut j = 0;
-        while j < n {
-            let v = p[j];
-            let t = next[j];
-            pick = steps::picked(pick, j, v, t);
-            j += 1;
-        }
-        // 5. Timer.
-        let timer = steps::timer_for(now, pick);
-        let chosen = pick.at;
-        let usable = pick.usable;
-        let run = table::holder(ids, chosen);
-        let said = steps::timer_said(timer);
-        let brought = total.ticks;
-        let report = Report {
+        let at = table::named(&self.table.ids, change);
+        judge::judged(self.last, self.timer, at, &self.table, now, change)?;
+        self.idle = tenants::idled(self.idle, self.running, self.last, now);
+        self.table.charge(self.running, self.last, now);
+        self.table.memory.keep(now);
+        let mut next = [Moment::new(NEVER); MOST_VCPUS];
+        let total = self.table.bring(now, &mut next);
+        self.table.change(&mut next, at, now, change);
+        let pick = self.table.choose(&next);
+        let run = self.table.holder(pick.at);
+        let timer = tenants::timer_for(now, pick);
+        self.last = now;
+        self.timer = timer;
+        self.running = pick.at;
+        Ok(Report {
             time: now,
             run,
-            usable,
-            timer: said,
-            brought,
-        };
-        Answer {
-            core: Core {
-                places: p,
-                last: now,
-                ids,
-                timer,
-                memory,
-                removed,
-                idle,
-                running: chosen,
-                n,
-            },
-            reply: Reply::Done(report),
-        }
+            usable: pick.usable,
+            timer,
+            brought: total.ticks,
+        })
     }
 
+    // Document 01's form: the state goes in with the call and is handed back with the reply.
+    pub fn turn(mut self, now: Moment, change: Change) -> Answer
+        ensures reply_is { paper_reply result.reply ≡ (turnRule self (call_of now change)).reply }
+        ensures core_is { result.core ≡ (turnRule self (call_of now change)).card }
+    {
+        let reply = self.step(now, change);
+        Answer { core: self, reply }
+    }
+
+    // Document 01 names the five calls; each is a line over `turn`.
     pub fn admit(self, now: Moment, description: Description) -> Answer
-        requires { ValidCore self }
-        ensures reply_is { paper_reply result.reply ≡ (turnRule (card self) (call_of now (Change.Admit description))).reply }
-        ensures core_is { (result.core ≡ core_of (turnRule (card self) (call_of now (Change.Admit description))).card) × ValidCore result.core }
+        ensures reply_is { paper_reply result.reply ≡ (turnRule self (call_of now (Change.Admit description))).reply }
+        ensures core_is { result.core ≡ (turnRule self (call_of now (Change.Admit description))).card }
     {
         self.turn(now, Change::Admit(description))
     }
 
     pub fn wake(self, now: Moment, id: Tunnel) -> Answer
-        requires { ValidCore self }
-        ensures reply_is { paper_reply result.reply ≡ (turnRule (card self) (call_of now (Change.Wake id))).reply }
-        ensures core_is { (result.core ≡ core_of (turnRule (card self) (call_of now (Change.Wake id))).card) × ValidCore result.core }
+        ensures reply_is { paper_reply result.reply ≡ (turnRule self (call_of now (Change.Wake id))).reply }
+        ensures core_is { result.core ≡ (turnRule self (call_of now (Change.Wake id))).card }
     {
         self.turn(now, Change::Wake(id))
     }
 
     pub fn block(self, now: Moment, id: Tunnel) -> Answer
-        requires { ValidCore self }
-        ensures reply_is { paper_reply result.reply ≡ (turnRule (card self) (call_of now (Change.Block id))).reply }
-        ensures core_is { (result.core ≡ core_of (turnRule (card self) (call_of now (Change.Block id))).card) × ValidCore result.core }
+        ensures reply_is { paper_reply result.reply ≡ (turnRule self (call_of now (Change.Block id))).reply }
+        ensures core_is { result.core ≡ (turnRule self (call_of now (Change.Block id))).card }
     {
         self.turn(now, Change::Block(id))
     }
 
     pub fn remove(self, now: Moment, id: Tunnel) -> Answer
-        requires { ValidCore self }
-        ensures reply_is { paper_reply result.reply ≡ (turnRule (card self) (call_of now (Change.Remove id))).reply }
-        ensures core_is { (result.core ≡ core_of (turnRule (card self) (call_of now (Change.Remove id))).card) × ValidCore result.core }
+        ensures reply_is { paper_reply result.reply ≡ (turnRule self (call_of now (Change.Remove id))).reply }
+        ensures core_is { result.core ≡ (turnRule self (call_of now (Change.Remove id))).card }
     {
         self.turn(now, Change::Remove(id))
     }
 
     pub fn tick(self, now: Moment) -> Answer
-        requires { ValidCore self }
-        ensures reply_is { paper_reply result.reply ≡ (turnRule (card self) (call_of now Change.Tick)).reply }
-        ensures core_is { (result.core ≡ core_of (turnRule (card self) (call_of now Change.Tick)).card) × ValidCore result.core }
+        ensures reply_is { paper_reply result.reply ≡ (turnRule self (call_of now Change.Tick)).reply }
+        ensures core_is { result.core ≡ (turnRule self (call_of now Change.Tick)).card }
     {
         self.turn(now, Change::Tick)
     }
 
     // What is known of the VCPU so named, or of one that left. A vacant place has an identifier above 24 bits, which must not be found.
-    pub fn look(self, id: Tunnel) -> Look
-        requires { ValidCore self }
-        ensures presence_is { paper_presence result.presence ≡ on_card id.0 (card self).vcpus }
-        ensures remembered_until { paper_remembered result.presence ≡ time_of id.0 (card self).remembered }
-        ensures vcpu_is { result.vcpu ≡ looked (findRule id.0 (card self).vcpus) }
-        ensures boundary_is { paper_boundary result.boundary ≡ boundary_of (findRule id.0 (card self).vcpus) }
+    pub fn look(&self, id: Tunnel) -> Look
+        ensures presence_is { paper_presence result.presence ≡ on_card id.0 self.now.vcpus }
+        ensures remembered_until { paper_remembered result.presence ≡ time_of id.0 self.now.remembered }
+        ensures vcpu_is { result.vcpu ≡ looked (findRule id.0 self.now.vcpus) }
+        ensures boundary_is { moment_in result.boundary ≡ boundary_of (findRule id.0 self.now.vcpus) }
     {
-        let vacant = steps::vacant();
-        let memory = self.memory;
-        let presence = remember::presence(memory, id);
         let absent = Look {
-            presence,
-            vcpu: vacant,
-            boundary: Boundary::Unset,
+            presence: self.table.memory.presence(id),
+            vcpu: Vcpu::vacant(),
+            boundary: None,
         };
-        let wide = LARGEST_TUNNEL < id.number();
-        if wide {
+        if LARGEST_TUNNEL < id.number() {
             return absent;
         }
-        let ids = self.ids;
-        let at = table::find(ids, id);
-        let nowhere = NOWHERE <= at;
-        if nowhere {
+        let Some(at) = table::find(&self.table.ids, id) else {
             return absent;
-        }
-        let p = self.places;
-        let vcpu = p[at];
-        let boundary = steps::boundary_said(vcpu);
+        };
+        let vcpu = self.table.places[at];
         Look {
             presence: Presence::OnCard,
             vcpu,
-            boundary,
+            boundary: vcpu.boundary(),
         }
     }
 
     // The smallest identifier on the card that is `low` or above: so a host goes through all of them, in rising order.
-    pub fn first_from(self, low: Tunnel) -> Found
-        requires { ValidCore self }
-        ensures { paper_found result ≡ first_from low.0 (card self).vcpus }
+    pub fn first_from(&self, low: Tunnel) -> Option<Tunnel>
+        ensures { number_in result ≡ first_from low.0 self.now.vcpus }
     {
-        let ids = self.ids;
-        let least = table::least(ids, low);
-        let none = least.number() == NOBODY;
-        if none {
-            return Found::Nobody;
-        }
-        Found::Tenant(least)
+        table::least(&self.table.ids[..self.table.n], low).map(Tunnel::new)
     }
 
-    pub fn status(self) -> Status
-        requires { ValidCore self }
-        ensures time_and_holder { (result.time.0 ≡ (card self).last) × (paper_holder result.run ≡ (card self).running) }
-        ensures timer_and_vcpus { (paper_timer result.timer ≡ (card self).timer) × (result.vcpus ≡ length (card self).vcpus) }
-        ensures remembered_count { result.remembered ≡ length (card self).remembered }
-        ensures removed_and_idle { (result.removed.0 ≡ (card self).removed) × (result.idle.0 ≡ (card self).idle) }
+    pub fn status(&self) -> Status
+        ensures time_and_holder { (result.time.0 ≡ self.now.last) × (number_in result.run ≡ self.now.running) }
+        ensures timer_and_vcpus { (moment_in result.timer ≡ self.now.timer) × (result.vcpus ≡ length self.now.vcpus) }
+        ensures remembered_count { result.remembered ≡ length self.now.remembered }
+        ensures removed_and_idle { (result.removed.0 ≡ self.now.removed) × (result.idle.0 ≡ self.now.idle) }
     {
-        let ids = self.ids;
-        let time = self.last;
-        let timer = self.timer;
-        let run = table::holder(ids, self.running);
-        let said = steps::timer_said(timer);
-        let memory = self.memory;
-        let removed = self.removed;
-        let idle = self.idle;
         Status {
-            time,
-            run,
-            timer: said,
-            vcpus: self.n,
-            remembered: memory.count,
-            removed,
-            idle,
+            time: self.last,
+            run: self.table.holder(self.running),
+            timer: self.timer,
+            vcpus: self.table.n,
+            remembered: self.table.memory.count,
+            removed: self.table.removed,
+            idle: self.idle,
         }
     }
 }

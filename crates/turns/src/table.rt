@@ -1,207 +1,82 @@
 // The table: where an identifier stands, where a newcomer goes, and the shifts of admit and remove.
-ghost use Rattle.std.specs.Prelude.{◌≡◌, ◌≤◌, ◌<◌};
+ghost use Rattle.std.specs.Prelude.{◌≡◌, ◌≤◌, ◌<◌, ◌==◌, ◌||◌, ◌&&◌, nat_lt, position, zip, filter, map, nat_le, min, option_map};
+ghost use Rattle.std.specs.List.{reduce};
 ghost use Rattle.rules.specs.Limits.{most_vcpus};
-ghost use Rattle.rules.specs.Vcpu.{more_urgent};
 ghost use Rattle.turns.specs.Calls.{described};
-ghost use Rattle.units.specs.Units.{tunnel};
-ghost use Rattle.turns.specs.Written.{nobody};
-ghost use Rattle.turns.specs.Places.{seek, nearer_of, least_in, named_at, holder_of, urgency, spot_in, inserted, removed};
+ghost use Rattle.turns.specs.Places.{on_table, named_at, spot_in, inserted, removed, BlankFrom};
 
-use crate::{Change, Description, Holder, IDLE, LAST_PLACE, MOST_VCPUS, NOBODY, NOWHERE, Vcpu};
-use units::{Moment, Tunnel};
+use crate::{Change, Description, MOST_VCPUS, Vcpu};
+use units::Tunnel;
 
 // The place of an identifier.
-pub(crate) fn find(ids: [Tunnel; MOST_VCPUS], id: Tunnel) -> usize
-    ensures { result ≡ seek id.0 ids }
+pub(crate) fn find(ids: &[Tunnel], id: Tunnel) -> Option<usize>
+    ensures { result ≡ position (λ x. x.0 == id.0) ids.now }
 {
-    let mut k = 0;
-    while k < MOST_VCPUS {
-        let x = ids[k];
-        let found = x.same(id);
-        if found {
-            return k;
-        }
-        k += 1;
-    }
-    NOWHERE
+    ids.iter().position(|x| *x == id)
 }
 
-// The smaller of two identifiers, of which the second counts from `low` on.
-fn nearer(best: Tunnel, id: Tunnel, low: Tunnel) -> Tunnel
-    ensures { result ≡ tunnel (nearer_of low.0 best.0 id.0) }
+// The smallest number of an identifier from `low` on; of numbers std says by an equation which one `min` gives.
+pub(crate) fn least(ids: &[Tunnel], low: Tunnel) -> Option<u32>
+    ensures { result ≡ reduce min (filter (λ n. nat_le low.0 n) (map (λ t. t.0) ids.now)) }
 {
-    let short = id.below(low);
-    if short {
-        return best;
-    }
-    let less = id.below(best);
-    if less {
-        return id;
-    }
-    best
-}
-
-// The smallest identifier from `low` on, or that of nobody.
-pub(crate) fn least(ids: [Tunnel; MOST_VCPUS], low: Tunnel) -> Tunnel
-    ensures { result ≡ tunnel (least_in low.0 nobody ids) }
-{
-    let mut best = Tunnel::new(NOBODY);
-    let mut k = 0;
-    while k < MOST_VCPUS {
-        let id = ids[k];
-        best = nearer(best, id, low);
-        k += 1;
-    }
-    best
+    ids.iter()
+        .map(|t| t.number())
+        .filter(|n| low.number() <= *n)
+        .min()
 }
 
 // The place of the VCPU that a call names; a tick names nobody. An identifier above 24 bits may give a vacant place: row 4 comes first.
-pub(crate) fn named(ids: [Tunnel; MOST_VCPUS], change: Change) -> usize
-    ensures { result ≡ named_at ids change }
+pub(crate) fn named(ids: &[Tunnel; MOST_VCPUS], change: Change) -> Option<usize>
+    ensures { result ≡ on_table (named_at ids.now change) }
 {
     match change {
         Change::Admit(d) => find(ids, d.tunnel),
-        Change::Wake(id) => find(ids, id),
-        Change::Block(id) => find(ids, id),
-        Change::Remove(id) => find(ids, id),
-        Change::Tick => NOWHERE,
+        Change::Wake(id) | Change::Block(id) | Change::Remove(id) => find(ids, id),
+        Change::Tick => None,
     }
 }
 
-pub(crate) fn holder(ids: [Tunnel; MOST_VCPUS], at: usize) -> Holder
-    ensures { result ≡ holder_of ids at }
+// The first of these places whose VCPU is less urgent than the newcomer.
+fn first_below(places: &[Vcpu], ids: &[Tunnel], priority: u8, tunnel: Tunnel) -> Option<usize>
+    ensures { result ≡ position (λ x. nat_lt priority x.0.priority || (priority == x.0.priority && nat_lt tunnel.0 x.1.0)) (zip places.now ids.now) }
 {
-    if at < IDLE {
-        return Holder::Vcpu(ids[at]);
-    }
-    Holder::Idle
+    let mine = (priority, tunnel);
+    places
+        .iter()
+        .zip(ids)
+        .position(|(v, id)| mine < (v.priority, *id))
 }
 
-// The newcomer is more urgent than a VCPU of that priority and identifier.
-fn more_urgent(d: Description, priority: u8, id: Tunnel) -> bool
-    ensures { result ≡ more_urgent (described d) (urgency priority id.0) }
-{
-    let mine = d.tunnel;
-    let level = d.priority == priority;
-    if level {
-        return mine.below(id);
-    }
-    d.priority < priority
-}
-
-// The first place of the first `n` whose VCPU is less urgent than the newcomer, or `n`.
+// .. and of the first `n`, or `n`.
 pub(crate) fn spot(
-    p: [Vcpu; MOST_VCPUS],
-    ids: [Tunnel; MOST_VCPUS],
+    places: &[Vcpu; MOST_VCPUS],
+    ids: &[Tunnel; MOST_VCPUS],
     n: usize,
     d: Description,
 ) -> usize
     requires { n ≤ most_vcpus }
-    ensures { result ≡ spot_in (described d) n p ids }
+    ensures { result ≡ spot_in (described d) n places.now ids.now }
 {
-    let mut k = 0;
-    while k < n {
-        let v = p[k];
-        let before = more_urgent(d, v.priority, ids[k]);
-        if before {
-            return k;
-        }
-        k += 1;
-    }
-    k
+    first_below(&places[..n], &ids[..n], d.priority, d.tunnel).unwrap_or(n)
 }
 
-// `v` at the place `at`, and what stood there and behind it one place on. The last one, a vacant place, is dropped.
-pub(crate) fn with_vcpu(p: [Vcpu; MOST_VCPUS], at: usize, v: Vcpu) -> [Vcpu; MOST_VCPUS]
-    requires { at ≤ most_vcpus }
-    ensures { result ≡ inserted at v p }
+// `x` at the place `at`, and what stood there and behind it one place on. The first `n` places are in use; the others are alike, so they are
+// not moved (docs/DECISIONS.md, "How do an admit and a remove shift the table?").
+pub(crate) fn insert_at<T: Copy>(slots: &mut [T; MOST_VCPUS], n: usize, at: usize, x: T)
+    requires place { (at ≤ n) × (n < most_vcpus) }
+    requires blank { (z : T) × BlankFrom n z slots.old }
+    ensures { slots.new ≡ inserted at x slots.old }
 {
-    let mut q = p;
-    let mut carried = v;
-    let mut k = at;
-    while k < MOST_VCPUS {
-        let x = q[k];
-        q[k] = carried;
-        carried = x;
-        k += 1;
-    }
-    q
+    slots.copy_within(at..n, at + 1);
+    slots[at] = x;
 }
 
-pub(crate) fn with_id(p: [Tunnel; MOST_VCPUS], at: usize, v: Tunnel) -> [Tunnel; MOST_VCPUS]
-    requires { at ≤ most_vcpus }
-    ensures { result ≡ inserted at v p }
+// What stood behind the place `at` one place forward, and `vacant`, as in the places that are not in use, at the last one that was.
+pub(crate) fn remove_at<T: Copy>(slots: &mut [T; MOST_VCPUS], n: usize, at: usize, vacant: T)
+    requires place { (at < n) × (n ≤ most_vcpus) }
+    requires blank { BlankFrom n vacant slots.old }
+    ensures { slots.new ≡ removed at vacant slots.old }
 {
-    let mut q = p;
-    let mut carried = v;
-    let mut k = at;
-    while k < MOST_VCPUS {
-        let x = q[k];
-        q[k] = carried;
-        carried = x;
-        k += 1;
-    }
-    q
-}
-
-pub(crate) fn with_time(p: [Moment; MOST_VCPUS], at: usize, v: Moment) -> [Moment; MOST_VCPUS]
-    requires { at ≤ most_vcpus }
-    ensures { result ≡ inserted at v p }
-{
-    let mut q = p;
-    let mut carried = v;
-    let mut k = at;
-    while k < MOST_VCPUS {
-        let x = q[k];
-        q[k] = carried;
-        carried = x;
-        k += 1;
-    }
-    q
-}
-
-// What stood behind the place `at` one place forward, and `v` at the last place.
-pub(crate) fn without_vcpu(p: [Vcpu; MOST_VCPUS], at: usize, v: Vcpu) -> [Vcpu; MOST_VCPUS]
-    requires { at < most_vcpus }
-    ensures { result ≡ removed at v p }
-{
-    let mut q = p;
-    let mut k = at;
-    while k < LAST_PLACE {
-        let x = q[k + 1];
-        q[k] = x;
-        k += 1;
-    }
-    q[LAST_PLACE] = v;
-    q
-}
-
-pub(crate) fn without_id(p: [Tunnel; MOST_VCPUS], at: usize, v: Tunnel) -> [Tunnel; MOST_VCPUS]
-    requires { at < most_vcpus }
-    ensures { result ≡ removed at v p }
-{
-    let mut q = p;
-    let mut k = at;
-    while k < LAST_PLACE {
-        let x = q[k + 1];
-        q[k] = x;
-        k += 1;
-    }
-    q[LAST_PLACE] = v;
-    q
-}
-
-pub(crate) fn without_time(p: [Moment; MOST_VCPUS], at: usize, v: Moment) -> [Moment; MOST_VCPUS]
-    requires { at < most_vcpus }
-    ensures { result ≡ removed at v p }
-{
-    let mut q = p;
-    let mut k = at;
-    while k < LAST_PLACE {
-        let x = q[k + 1];
-        q[k] = x;
-        k += 1;
-    }
-    q[LAST_PLACE] = v;
-    q
+    slots.copy_within(at + 1..n, at);
+    slots[n - 1] = vacant;
 }

@@ -1,26 +1,23 @@
--- `turns::Core::first_from` meets its contract: the smallest identifier of the table from `low` on, or that there is none.
+-- `turns::Core::first_from` meets its contract: the smallest identifier of the places in use from `low` on, or that there is none.
 -- Assumes nothing.
-use mathlib.Core.Path.{ap, sym, ◌∙◌}
-use lib.Dec.{eqb}
-use Rattle.turns.specs.Written.{nobody}
+use Rattle.std.proofs.Common.{rules, ◌≡◌, ◌∙◌, arith, ap, option_map, Option, ℕ}
+use Rattle.units.specs.Units.{tunnel}
+use Rattle.rules.specs.Card.{Card, first_from}
+use Rattle.turns.specs.Written.{number_in}
+use Rattle.turns.proofs.Invariant.{between}
 use Rattle.turns.proofs.Made.{sound}
-use Rattle.turns.proofs.Least.{none-least, some-least}
+use Rattle.turns.proofs.Stage.{n-is}
+use Rattle.turns.proofs.Least.{first-is}
 use Rattle.turns.proofs.Core.first_from.Goals as goal
-use Rattle.turns.proofs.Core.first_from.Goals.{After-number-none, Start}
 
-abbrev start : After-number-none → Start
-start c = (goal.at.After-number-none c).Start
-
-pub returns-then-none : goal.returns-then-none
-returns-then-none c =
-    let n = (goal.at.returns-then-none c).After-number-none in
-    let s = (start n).args.self in
-    none-least s (sound s (start n).requires) (start n).args.low.0 n.least-least.result n.least-least.ensures
-    (ap (λ k. eqb k nobody) (sym n.number-none.ensures) ∙ c.if-none.true-raw)
+pub shared_ref_as_front-least : goal.shared_ref_as_front-least
+shared_ref_as_front-least c =
+    let r = sound c.self.inside c.self.invariant in omega (arith, n-is c.self.inside r, (between c.self.inside r).few)
 
 pub returns : goal.returns
 returns c =
-    let n = (goal.at.returns c).After-number-none in
-    let s = (start n).args.self in
-    some-least s (sound s (start n).requires) (start n).args.low.0 n.least-least.result n.least-least.ensures
-    (ap (λ k. eqb k nobody) (sym n.number-none.ensures) ∙ c.if-none.false-raw)
+    let h : c.map.result ≡ option_map tunnel c.least.result = search rules in
+    ap number_in h
+    ∙ ap (λ (o : Option ℕ). number_in (option_map tunnel o)) c.least.ensures
+    ∙ first-is c.self.inside (sound c.self.inside c.self.invariant) c.args.low.0
+    ∙ ap (λ (k : Card). first_from c.args.low.0 k.vcpus) c.self.view_is

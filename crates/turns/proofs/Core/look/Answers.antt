@@ -1,96 +1,87 @@
 -- `turns::Core::look` meets its contract: the place sought is the tenant's, and a vacant place is never named.
 -- Assumes nothing.
-use Prim.Native.Nat.{ℕ, ◌≤◌, ◌<◌}
-use mathlib.Core.Path.{◌≡◌, ap, sym, ◌∙◌, subst}
-use mathlib.Core.Bool.{Bool}
-use lib.Dec.{leb, ltb}
+use mathlib.Core.Path.{ap, sym, ◌∙◌}
+use mathlib.Core.Bool.{true, false}
+use native.Mathlib.Omega.{arith}
 use lib.ListN.{get_or}
-use borrow.Author.Tests.{leb-true, leb-false, ltb-true, ltb-false}
-use Rattle.rules.specs.Limits.{largest_tunnel}
+use Rattle.std.specs.Prelude.{None}
 use Rattle.rules.specs.Remember.{time_of}
-use Rattle.turns.specs.declared.Core.{Core}
-use Rattle.turns.specs.Places.{nowhere, seek}
-use Rattle.turns.proofs.Invariant.{SoundCore}
+use Rattle.turns.specs.Steps.{boundary_held}
+use Rattle.turns.specs.Written.{moment_in, written, no_tenant}
 use Rattle.turns.proofs.Made.{sound}
-use Rattle.turns.specs.Steps.{boundary_in}
-use Rattle.turns.specs.Calls.{paper_remembered}
-use Rattle.turns.specs.Remembered.{Below}
-use Rattle.turns.specs.Written.{card}
-use Rattle.turns.proofs.Stage.{memories_are, memory-written, remembered-below}
-use Rattle.turns.proofs.Questions.{unread, wide_sought, there-sought, there-known, absent-sought}
+use Rattle.turns.proofs.Questions.{Sought, wide_sought, absent-sought, there-sought, there-known, sought-at, unread}
+use Rattle.turns.proofs.Stage.{memories_are, memory-written}
 use Rattle.turns.proofs.Core.look.Goals as goal
-use Rattle.turns.proofs.Core.look.Goals.{After-find-at, After-number-wide, After-presence-presence, Start}
 
--- the places of the code: the identifier's number is read, and its place is found
-abbrev asked : After-number-wide → After-presence-presence
-asked c = (goal.at.After-number-wide c).After-presence-presence
+pub presence-requires : goal.presence-requires
+presence-requires c = memory-written c.self.inside (sound c.self.inside c.self.invariant)
 
-abbrev start : After-number-wide → Start
-start c = (goal.at.After-presence-presence (asked c)).Start
+-- an identifier above 24 bits
+wide : (c : goal.Then-number-gt-LARGEST_TUNNEL) → Sought c.self.inside c.args.id.0 false (written no_tenant) None
+wide c =
+    wide_sought c.self.inside (sound c.self.inside c.self.invariant) c.args.id.0
+    (omega (arith, c.number.ensures, c.if-number-gt-LARGEST_TUNNEL.true))
 
-abbrev core : After-number-wide → Core
-core c = (start c).args.self
+pub returns-then-number-gt-LARGEST_TUNNEL-clause-presence_is :
+    goal.returns-then-number-gt-LARGEST_TUNNEL-clause-presence_is
+returns-then-number-gt-LARGEST_TUNNEL-clause-presence_is c = rw (← c.self.view_is) (c.presence.ensures.0 ∙ (wide c).present)
 
-abbrev id : After-number-wide → ℕ
-id c = (start c).args.id.0
+pub returns-then-number-gt-LARGEST_TUNNEL-clause-remembered_until :
+    goal.returns-then-number-gt-LARGEST_TUNNEL-clause-remembered_until
+returns-then-number-gt-LARGEST_TUNNEL-clause-remembered_until c =
+    rw (← c.self.view_is)
+    (c.presence.ensures.1 ∙ ap (time_of c.args.id.0) (memories_are c.self.inside (sound c.self.inside c.self.invariant)))
 
-valid : (c : After-number-wide) → SoundCore (core c)
-valid c = sound (core c) (start c).requires
+pub returns-then-number-gt-LARGEST_TUNNEL-clause-vcpu_is :
+    goal.returns-then-number-gt-LARGEST_TUNNEL-clause-vcpu_is
+returns-then-number-gt-LARGEST_TUNNEL-clause-vcpu_is c = rw (← c.self.view_is) (c.vacant.ensures ∙ (wide c).is)
 
-wide : (c : After-number-wide) (b : Bool) → ltb largest_tunnel c.number-wide.result ≡ b → ltb largest_tunnel (id c) ≡ b
-wide c b e = ap (ltb largest_tunnel) (sym c.number-wide.ensures) ∙ e
+pub returns-then-number-gt-LARGEST_TUNNEL-clause-boundary_is :
+    goal.returns-then-number-gt-LARGEST_TUNNEL-clause-boundary_is
+returns-then-number-gt-LARGEST_TUNNEL-clause-boundary_is c = rw (← c.self.view_is) (wide c).boundary
 
-abbrev numbered : After-find-at → After-number-wide
-numbered c = (goal.at.After-find-at c).After-number-wide
+-- one that is not found
+missing : (c : goal.In_default) → Sought c.self.inside c.args.id.0 false (written no_tenant) None
+missing c =
+    let r = sound c.self.inside c.self.invariant in
+    absent-sought c.self.inside r c.args.id.0 (omega (arith, c.number.ensures, c.if-number-gt-LARGEST_TUNNEL.false))
+    (sym (sought-at c.self.inside r c.args.id.0) ∙ sym c.find.ensures ∙ c.in_default.is)
 
-narrow : (c : After-find-at) → id (numbered c) ≤ largest_tunnel
-narrow c = ltb-false largest_tunnel (id (numbered c)) (wide (numbered c) _ c.if-wide.false-raw)
+pub returns-in_default-clause-presence_is : goal.returns-in_default-clause-presence_is
+returns-in_default-clause-presence_is c = rw (← c.self.view_is) (c.presence.ensures.0 ∙ (missing c).present)
 
-pub presence-presence-requires : goal.presence-presence-requires
-presence-presence-requires c =
-    let v : SoundCore c.args.self = sound c.args.self c.requires in
-    record {
-      fixed = memory-written c.args.self v;
-      below = subst Below (sym (memories_are c.args.self v)) (remembered-below c.args.self v);
-    }
+pub returns-in_default-clause-remembered_until : goal.returns-in_default-clause-remembered_until
+returns-in_default-clause-remembered_until c =
+    rw (← c.self.view_is)
+    (c.presence.ensures.1 ∙ ap (time_of c.args.id.0) (memories_are c.self.inside (sound c.self.inside c.self.invariant)))
 
--- where it is not on the card
-remembered : (c : After-number-wide) → paper_remembered (asked c).presence-presence.result ≡ time_of (id c) (card (core c)).remembered
-remembered c = (asked c).presence-presence.ensures.1 ∙ ap (time_of (id c)) (memories_are (core c) (valid c))
+pub returns-in_default-clause-vcpu_is : goal.returns-in_default-clause-vcpu_is
+returns-in_default-clause-vcpu_is c = rw (← c.self.view_is) (c.vacant.ensures ∙ (missing c).is)
 
-pub returns-then-wide : goal.returns-then-wide
-returns-then-wide c =
-    let n = (goal.at.returns-then-wide c).After-number-wide in
-    let h : largest_tunnel < id n = ltb-true largest_tunnel (id n) (wide n _ c.if-wide.true-raw) in
-    let s = wide_sought (core n) (valid n) (id n) h in record {
-      presence_is = (asked n).presence-presence.ensures.0 ∙ s.present;
-      remembered_until = remembered n;
-      vcpu_is = (asked n).vacant-vacant.ensures ∙ s.is;
-      boundary_is = s.boundary;
-    }
+pub returns-in_default-clause-boundary_is : goal.returns-in_default-clause-boundary_is
+returns-in_default-clause-boundary_is c = rw (← c.self.view_is) (missing c).boundary
 
-pub returns-then-nowhere : goal.returns-then-nowhere
-returns-then-nowhere c =
-    let n = numbered (goal.at.returns-then-nowhere c).After-find-at in
-    let h : nowhere ≤ seek (id n) (core n).ids = leb-true nowhere _ (ap (leb nowhere) (sym c.find-at.ensures) ∙ c.if-nowhere.true-raw) in
-    let s = absent-sought (core n) (valid n) (id n) (narrow (goal.at.returns-then-nowhere c).After-find-at) h in record {
-      presence_is = (asked n).presence-presence.ensures.0 ∙ s.present;
-      remembered_until = remembered n;
-      vcpu_is = (asked n).vacant-vacant.ensures ∙ s.is;
-      boundary_is = s.boundary;
-    }
+-- and one that is
+there : (c : goal.After-boundary)
+    → Sought c.self.inside c.args.id.0 true (get_or c.self.inside.table.places c.in-Some.at unread)
+    (boundary_held (get_or c.self.inside.table.places c.in-Some.at unread))
+there c =
+    let r = sound c.self.inside c.self.invariant in
+    there-sought c.self.inside r c.args.id.0 (omega (arith, c.number.ensures, c.if-number-gt-LARGEST_TUNNEL.false)) c.in-Some.at unread
+    (sym (sought-at c.self.inside r c.args.id.0) ∙ sym c.find.ensures ∙ c.in-Some.is)
 
-pub returns : goal.returns
-returns c =
-    let f = (goal.at.returns c).After-find-at in
-    let n = numbered f in
-    let h : seek (id n) (core n).ids < nowhere = leb-false nowhere _ (ap (leb nowhere) (sym f.find-at.ensures) ∙ c.if-nowhere.false-raw) in
-    let s = there-sought (core n) (valid n) (id n) (narrow f) unread h in
-    let at : get_or (core n).places f.find-at.result unread ≡ get_or (core n).places (seek (id n) (core n).ids) unread = ap (λ (i : ℕ). get_or (core n).places i unread) f.find-at.ensures in
-    let known = there-known (core n) (valid n) (id n) (narrow f) h in
-    record {
-      presence_is = s.present;
-      remembered_until = known;
-      vcpu_is = at ∙ s.is;
-      boundary_is = c.boundary_said-boundary.ensures ∙ ap boundary_in at ∙ s.boundary;
-    }
+pub returns-clause-presence_is : goal.returns-clause-presence_is
+returns-clause-presence_is c = rw (← c.self.view_is) (there c).present
+
+pub returns-clause-remembered_until : goal.returns-clause-remembered_until
+returns-clause-remembered_until c =
+    let r = sound c.self.inside c.self.invariant in
+    rw (← c.self.view_is)
+    (there-known c.self.inside r c.args.id.0 (omega (arith, c.number.ensures, c.if-number-gt-LARGEST_TUNNEL.false)) c.in-Some.at
+    (sym (sought-at c.self.inside r c.args.id.0) ∙ sym c.find.ensures ∙ c.in-Some.is))
+
+pub returns-clause-vcpu_is : goal.returns-clause-vcpu_is
+returns-clause-vcpu_is c = rw (← c.self.view_is) (there c).is
+
+pub returns-clause-boundary_is : goal.returns-clause-boundary_is
+returns-clause-boundary_is c = rw (← c.self.view_is) (ap moment_in c.boundary.ensures ∙ (there c).boundary)

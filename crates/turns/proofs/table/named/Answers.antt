@@ -1,15 +1,20 @@
 -- `turns::table::named` meets its contract: the identifier of each call is sought.
 -- Assumes nothing.
+use Rattle.std.proofs.Common.{◌∙◌}
+use mathlib.Core.Logic.{inl, inr}
+use Rattle.turns.proofs.Shift.{seek_found}
 use Rattle.turns.proofs.table.named.Goals as goal
 
 pub returns-in-Admit : goal.returns-in-Admit
-returns-in-Admit c = rw c.in-Admit.is c.find.ensures
+returns-in-Admit c = rw c.in-Admit.is (c.find.ensures ∙ seek_found c.in-Admit.d.tunnel.0 c.args.ids.now c.told-ids)
 
 pub returns-in-Wake : goal.returns-in-Wake
-returns-in-Wake c = rw c.in-Wake.is c.find-in-Wake.ensures
-
-pub returns-in-Block : goal.returns-in-Block
-returns-in-Block c = rw c.in-Block.is c.find-in-Block.ensures
-
-pub returns-in-Remove : goal.returns-in-Remove
-returns-in-Remove c = rw c.in-Remove.is c.find-in-Remove.ensures
+returns-in-Wake c =
+    let h = c.find-in-Wake.ensures ∙ seek_found c.in-Wake.id.0 c.args.ids.now c.told-ids in
+    elim c.in-Wake.is [
+      | inl e ↦ rw e h
+      | inr r ↦ elim r [
+        | inl e ↦ rw e h
+        | inr e ↦ rw e h
+      ]
+    ]
