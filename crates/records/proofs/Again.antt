@@ -6,6 +6,7 @@ use native.Mathlib.Omega.{arith}
 use mathlib.Core.Path.{◌≡◌, refl, ap, sym, ◌∙◌, subst}
 use mathlib.Core.Bool.{true}
 use mathlib.Core.List.{List, [], ◌∷◌, ◌++◌}
+use Rattle.std.specs.Prelude.{Ok}
 use lib.ListN.{length, get_or, take, drop}
 use lib.Seq.{take-add, drop-drop}
 use lib.Dec.{leb}
@@ -13,7 +14,6 @@ use borrow.Author.Tests.{le-leb}
 use Rattle.rules.specs.Limits.{largest_tunnel}
 use Rattle.rules.specs.Change.{admit}
 use Rattle.records.specs.declared.answers.Event.{Event}
-use Rattle.records.specs.declared.answers.Read.TheVariants.{Event as Got}
 use Rattle.records.specs.Bytes.{AreBytes, number, bytes_of}
 use Rattle.records.specs.Record.{known, payload, tag, length_said, time, identifier, description, asked, call}
 use Rattle.records.specs.Answer.{paper_event, read_spec}
@@ -107,7 +107,7 @@ module _ (s : List ℕ) (h : AreBytes s) where
   in_range_again k n tick-has = ((number-below 8 3, tt), refl)
 
 -- what was read is in range, and its record is the bytes that were read
-pub read_again : (offset : ℕ) (s : List ℕ) (e : Event) → AreBytes s → read_spec offset s ≡ Got e
+pub read_again : (offset : ℕ) (s : List ℕ) (e : Event) → AreBytes s → read_spec offset s ≡ Ok e
     → InRange (paper_event e) × (record_of (paper_event e) ≡ take (size_of e) s)
 unfolding call
 read_again offset s e h r =

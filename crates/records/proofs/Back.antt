@@ -5,6 +5,7 @@ use native.Mathlib.Omega.{arith}
 use mathlib.Core.Path.{◌≡◌, refl, ap, sym, ◌∙◌}
 use mathlib.Core.Bool.{Bool, true, false}
 use mathlib.Core.List.{List, [], ◌∷◌, ◌++◌}
+use Rattle.std.specs.Prelude.{Ok}
 use lib.ListN.{length, take, drop, length-append, take-append-drop}
 use lib.Seq.{length-take-le}
 use lib.Dec.{leb}
@@ -15,7 +16,6 @@ use Rattle.rules.specs.Vcpu.{Description}
 use Rattle.rules.specs.Change.{Change, admit, wake, block, remove, tick}
 use Rattle.rules.specs.Turn.{Call}
 use Rattle.records.specs.declared.answers.Event.{Event}
-use Rattle.records.specs.declared.answers.Read.TheVariants.{Event as Got}
 use Rattle.records.specs.Bytes.{AreBytes, number, bytes_of}
 use Rattle.records.specs.Record.{event, no, known, payload_of, payload, reading, waits}
 use Rattle.records.specs.Record.{tag, length_said, time, identifier, description, asked, call}
@@ -86,10 +86,10 @@ reads-back offset c h t =
     whole-record offset s k l p ∙ ap event (same-call (time-back c.now t c.asked h.0.0) a)
 
 pub event-reads-back : (offset : ℕ) (e : Event) → InRange (paper_event e) → (t : List ℕ)
-    → read_spec offset (record_of (paper_event e) ++ t) ≡ Got e
+    → read_spec offset (record_of (paper_event e) ++ t) ≡ Ok e
 event-reads-back offset e h t =
     let c = paper_event e in
-    answers offset (record_of c ++ t) (event c) (reads-back offset c h t) ∙ ap Got (said-again e)
+    answers offset (record_of c ++ t) (event c) (reads-back offset c h t) ∙ ap Ok (said-again e)
 
 fields-below : (a : Change) → AreBytes (fields_of a)
 fields-below (admit d) =
@@ -115,7 +115,7 @@ record-bytes c =
 
 -- what `write` wrote reads back as the event
 pub written-reads-back : (offset : ℕ) (e : Event) (out : List ℕ) → OfItsTypes (paper_event e) → is_written e out ≡ true
-    → (written_size e out ≡ size_of e) × (read_spec offset (out_after e out) ≡ Got e)
+    → (written_size e out ≡ size_of e) × (read_spec offset (out_after e out) ≡ Ok e)
 unfolding is_written written_size out_after
 written-reads-back offset e out h g =
     let n : has24_bits (paper_event e).asked ≡ true = (and-true (has24_bits (paper_event e).asked) (leb (size_of e) (length out)) g).0 in

@@ -11,12 +11,13 @@ use lib.ListN.{length, get_or, replicate, length-append, get_or-append}
 use borrow.Author.Tests.{ltb-true, ltb-false, eqb-true, eqb-false, lt-ltb, le-ltb, eq-eqb, ne_eqb}
 use Rattle.rules.proofs.Tests.{clash}
 use Rattle.rules.specs.Change.{admit, wake, block, remove}
-use Rattle.records.specs.declared.answers.Read.{Read}
-use Rattle.records.specs.declared.answers.Read.TheVariants.{Event as Got, No}
+use Rattle.std.specs.Prelude.{Result, Ok, Err}
+use Rattle.records.specs.declared.answers.Event.{Event}
+use Rattle.records.specs.declared.answers.BadRecord.{BadRecord}
 use Rattle.records.specs.Bytes.{AreBytes}
 use Rattle.records.specs.Record.{event, no, known, payload, reading, waits}
 use Rattle.records.specs.Record.{tag, length_said, time, identifier, description, asked, call}
-use Rattle.records.specs.Answer.{read_said, read_spec}
+use Rattle.records.specs.Answer.{bad_number, read_said, read_spec}
 use Rattle.records.specs.Rows.{Layout, admit-has, wake-has, block-has, remove-has, tick-has}
 use Rattle.records.proofs.Paper.{same-call}
 use Rattle.records.proofs.Digits.{number_append}
@@ -129,9 +130,9 @@ zeros zero = tt
 zeros (suc n) = (omega arith, zeros n)
 
 -- the number of an answer, 0 of an event
-unfoldable pub number_of : Read → ℕ
-number_of (Got e) = 0
-number_of (No r) = r.number
+unfoldable pub number_of : Result Event BadRecord → ℕ
+number_of (Ok e) = 0
+number_of (Err b) = bad_number b
 
 third_zero : (s : List ℕ) → length s < 3 → get_or (s ++ replicate 21 0) 2 0 ≡ 0
 third_zero [] h = refl

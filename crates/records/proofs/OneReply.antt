@@ -3,6 +3,10 @@
 use mathlib.Core.Path.{sym, ◌∙◌}
 use Rattle.promise.specs.OneReply.{OneReply, OneReplyAndBytes}
 use Rattle.records.proofs.Paper.{same_read}
+use Rattle.records.proofs.answers.BadRecord.number.Kinds as number
+use Rattle.records.proofs.answers.BadRecord.number.Reads as number-promise
+use Rattle.records.proofs.answers.BadRecord.detail.Kinds as detail
+use Rattle.records.proofs.answers.BadRecord.detail.Reads as detail-promise
 use Rattle.records.proofs.reader.read.Kinds as read
 use Rattle.records.proofs.reader.read.Reads as read-promise
 use Rattle.records.proofs.writer.size.Kinds as size
@@ -12,6 +16,12 @@ use Rattle.records.proofs.writer.write.Reads as write-promise
 
 pub read_one : OneReply 1 read.ps read.r read-promise.Post
 read_one κs args a b x y p q = same_read a b (p ∙ sym q)
+
+pub number_one : OneReply 0 number.ps number.r number-promise.Post
+number_one κs args a b x y p q = p ∙ sym q
+
+pub detail_one : OneReply 0 detail.ps detail.r detail-promise.Post
+detail_one κs args a b x y p q = p ∙ sym q
 
 pub size-one : OneReply 0 size.ps size.r size-promise.Post
 size-one κs args a b x y p q = p ∙ sym q

@@ -3,15 +3,18 @@
 use Prim.Native.Nat.{ℕ}
 use mathlib.Core.Path.{◌≡◌, refl, ap, sym, ◌∙◌}
 use mathlib.Core.List.{List}
+use Rattle.std.specs.Prelude.{Result, Ok, Err}
 use Rattle.rules.specs.Vcpu.{Description}
 use Rattle.rules.specs.Change.{Change, admit, wake, block, remove, tick}
 use Rattle.rules.specs.Turn.{Call}
+use Rattle.turns.specs.declared.Change.{Change as Asking}
+use Rattle.turns.specs.declared.Change.TheVariants.{Admit, Wake, Block, Remove, Tick}
+use Rattle.turns.specs.Calls.{asked}
 use Rattle.records.specs.declared.answers.Event.{Event}
-use Rattle.records.specs.declared.answers.Event.TheVariants.{Admit, Wake, Block, Remove, Tick}
-use Rattle.records.specs.declared.answers.Read.{Read}
-use Rattle.records.specs.declared.answers.Read.TheVariants.{Event as Got, No}
-use Rattle.records.specs.Record.{Reading, event, refused, reading}
-use Rattle.records.specs.Answer.{paper_event, paper_read, event_said, read_said, read_spec}
+use Rattle.records.specs.declared.answers.BadRecord.{BadRecord}
+use Rattle.records.specs.declared.answers.BadRecord.TheVariants.{CutShort, UnknownTag, BadLength}
+use Rattle.records.specs.Record.{reading}
+use Rattle.records.specs.Answer.{paper_event, paper_read, bad_number, bad_detail, change_said, event_said, bad_said, read_said, read_spec}
 
 -- a call is its time and what it asks, and a description its five numbers
 pub same-call : {n m : ℕ} {a b : Change} → n ≡ m → a ≡ b → ◌≡◌ {A = Call} (record { now = n; asked = a }) (record { now = m; asked = b })
@@ -23,34 +26,41 @@ pub same-terms : (d : Description) {i p c u k : ℕ}
 same-terms d e f g h k = rw (e, f, g, h, k)
 
 -- an event is what its own values say
+asking-again : (a : Asking) → change_said (asked a) ≡ a
+asking-again (Admit d) = refl
+asking-again (Wake t) = refl
+asking-again (Block t) = refl
+asking-again (Remove t) = refl
+asking-again Tick = refl
+
 pub said-again : (e : Event) → event_said (paper_event e).now (paper_event e).asked ≡ e
-said-again (Admit m d) = refl
-said-again (Wake m t) = refl
-said-again (Block m t) = refl
-said-again (Remove m t) = refl
-said-again (Tick m) = refl
+said-again e = ap (λ (a : Asking). record { time = e.time; change = a }) (asking-again e.change)
 
 -- and its values are those that it says
+asked-again : (a : Change) → asked (change_said a) ≡ a
+asked-again (admit d) = refl
+asked-again (wake t) = refl
+asked-again (block t) = refl
+asked-again (remove t) = refl
+asked-again tick = refl
+
 pub values-again : (n : ℕ) (a : Change) → paper_event (event_said n a) ≡ record { now = n; asked = a }
-values-again n (admit d) = refl
-values-again n (wake t) = refl
-values-again n (block t) = refl
-values-again n (remove t) = refl
-values-again n tick = refl
+values-again n a = same-call refl (asked-again a)
 
-pub said-paper : (r : Read) → read_said (paper_read r) ≡ r
-said-paper (Got e) = ap Got (said-again e)
-said-paper (No r) = refl
+bad-again : (b : BadRecord) → bad_said (bad_number b) (bad_detail b) ≡ b
+bad-again (CutShort offset) = refl
+bad-again (UnknownTag offset) = refl
+bad-again (BadLength offset) = refl
 
-pub paper-said : (x : Reading) → paper_read (read_said x) ≡ x
-paper-said (event c) = ap event (values-again c.now c.asked)
-paper-said (refused r) = refl
+pub said-paper : (r : Result Event BadRecord) → read_said (paper_read r) ≡ r
+said-paper (Ok e) = ap Ok (said-again e)
+said-paper (Err b) = ap Err (bad-again b)
 
 -- the paper's number and values tell the answers apart
-pub same_read : (a b : Read) → paper_read a ≡ paper_read b → a ≡ b
+pub same_read : (a b : Result Event BadRecord) → paper_read a ≡ paper_read b → a ≡ b
 same_read a b e = sym (said-paper a) ∙ ap read_said e ∙ said-paper b
 
 -- the one answer that the promise of `read` allows
-pub read_is : (offset : ℕ) (s : List ℕ) (r : Read) → paper_read r ≡ reading offset s → r ≡ read_spec offset s
+pub read_is : (offset : ℕ) (s : List ℕ) (r : Result Event BadRecord) → paper_read r ≡ reading offset s → r ≡ read_spec offset s
 unfolding read_spec
 read_is offset s r e = sym (said-paper r) ∙ ap read_said e

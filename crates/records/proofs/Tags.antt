@@ -4,17 +4,17 @@ use Prim.Native.Nat.{ℕ, ◌≤◌}
 use native.Mathlib.Omega.{arith}
 use mathlib.Core.Path.{◌≡◌, refl, ap, sym, ◌∙◌, subst}
 use mathlib.Core.Bool.{Bool, true, false}
-use mathlib.Core.Option.{Option, none, some, get_or}
+use Rattle.std.specs.Prelude.{Option, None, Some, is_some, unwrap_or}
 use lib.Dec.{eqb}
 use borrow.Author.Tests.{eqb-true, eqb-false}
 use Rattle.rules.proofs.Tests.{clash}
-use Rattle.records.specs.Record.{payload_of, is_there, known, payload}
+use Rattle.records.specs.Record.{payload_of, known, payload}
 use Rattle.records.specs.Rows.{Layout, admit-has, wake-has, block-has, remove-has, tick-has}
 
 -- a tag with its payload, or one that has none
 data Sort (k : ℕ) : Type 0 where
   one : (n : ℕ) → Layout k n → Sort k
-  other : payload_of k ≡ none → (1 ≤ k → k ≤ 5 → ⊥) → Sort k
+  other : payload_of k ≡ None → (1 ≤ k → k ≤ 5 → ⊥) → Sort k
 
 sort : (k : ℕ) → Sort k
 unfolding payload_of
@@ -35,7 +35,7 @@ sort k = go (eqb k 1) refl (eqb k 2) refl (eqb k 3) refl (eqb k 4) refl (eqb k 5
         (λ x y. omega (arith, eqb-false k 1 p, eqb-false k 2 q, eqb-false k 3 r, eqb-false k 4 s, eqb-false k 5 t))
 
 -- the layout that the plain facts have is the one that the rule has
-pub layout_is : (k n : ℕ) → Layout k n → payload_of k ≡ some n
+pub layout_is : (k n : ℕ) → Layout k n → payload_of k ≡ Some n
 unfolding payload_of
 layout_is k n admit-has = refl
 layout_is k n wake-has = refl
@@ -59,18 +59,18 @@ layout-naming k n block-has a b = refl
 layout-naming k n remove-has a b = refl
 layout-naming k n tick-has a b = absurd (omega arith)
 
-pub has-bytes : (k n : ℕ) → payload_of k ≡ some n → (known k ≡ true) × (payload k ≡ n)
+pub has-bytes : (k n : ℕ) → payload_of k ≡ Some n → (known k ≡ true) × (payload k ≡ n)
 unfolding known payload
-has-bytes k n e = (ap is_there e, ap (λ (o : Option ℕ). get_or o 0) e)
+has-bytes k n e = (ap is_some e, ap (λ (o : Option ℕ). unwrap_or o 0) e)
 
-pub has-none : (k : ℕ) → payload_of k ≡ none → known k ≡ false
+pub has-none : (k : ℕ) → payload_of k ≡ None → known k ≡ false
 unfolding known
-has-none k e = ap is_there e
+has-none k e = ap is_some e
 
-pub none-outside : (k : ℕ) → (1 ≤ k → k ≤ 5 → ⊥) → payload_of k ≡ none
+pub none-outside : (k : ℕ) → (1 ≤ k → k ≤ 5 → ⊥) → payload_of k ≡ None
 none-outside k h = go (sort k)
   where
-    go : Sort k → payload_of k ≡ none
+    go : Sort k → payload_of k ≡ None
     go (one n l) = absurd (h (layout_bounds k n l).0 (layout_bounds k n l).1)
     go (other e o) = e
 
@@ -85,11 +85,11 @@ known-layout k h = go (sort k)
 pub layout-known : (k n : ℕ) → Layout k n → (known k ≡ true) × (payload k ≡ n)
 layout-known k n l = has-bytes k n (layout_is k n l)
 
-pub payload-naming : (k : ℕ) → 2 ≤ k → k ≤ 4 → payload_of k ≡ some 11
+pub payload-naming : (k : ℕ) → 2 ≤ k → k ≤ 4 → payload_of k ≡ Some 11
 payload-naming k a b = go (sort k)
   where
-    go : Sort k → payload_of k ≡ some 11
-    go (one n l) = layout_is k n l ∙ ap some (layout-naming k n l a b)
+    go : Sort k → payload_of k ≡ Some 11
+    go (one n l) = layout_is k n l ∙ ap Some (layout-naming k n l a b)
     go (other e o) = absurd (o (omega arith) (omega arith))
 
 pub payload_bounds : (k : ℕ) → known k ≡ true → (8 ≤ payload k) × (payload k ≤ 21)

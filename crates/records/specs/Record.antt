@@ -1,8 +1,7 @@
 -- Document 01, "Event records and lines", with document 02's kind and offset: what a record says, in plain numbers, and the checks in
 -- their order. Assumes nothing.
-use Rattle.std.specs.Prelude.{ℕ, ◌+◌, min, Bool, true, false, cond, not, ◌&&◌, ◌||◌, List, ltb, eqb, length, get_or}
-use Rattle.std.proofs.Math.Option
-use Rattle.std.proofs.Math.Option.{Option, none, some}
+use Rattle.std.specs.Prelude.{ℕ, ◌+◌, min, Bool, cond, not, ◌&&◌, ◌||◌, List, ltb, eqb, length, get_or}
+use Rattle.std.specs.Prelude.{Option, None, Some, is_some, unwrap_or}
 use Rattle.rules.specs.Vcpu.{Description}
 use Rattle.rules.specs.Change.{Change, admit, wake, block, remove, tick}
 use Rattle.rules.specs.Refuse.{Refusal}
@@ -18,23 +17,19 @@ pub data Reading : Type 0 where
 -- is known
 unfoldable pub payload_of : ℕ → Option ℕ
 payload_of tag =
-    cond (eqb tag 1) (some 21)
-    (cond (eqb tag 2) (some 11)
-    (cond (eqb tag 3) (some 11)
-    (cond (eqb tag 4) (some 11)
-    (cond (eqb tag 5) (some 8)
-    none))))
-
-abbrev pub is_there : Option ℕ → Bool
-is_there none = false
-is_there (some n) = true
+    cond (eqb tag 1) (Some 21)
+    (cond (eqb tag 2) (Some 11)
+    (cond (eqb tag 3) (Some 11)
+    (cond (eqb tag 4) (Some 11)
+    (cond (eqb tag 5) (Some 8)
+    None))))
 
 unfoldable pub known : ℕ → Bool
-known tag = is_there (payload_of tag)
+known tag = is_some (payload_of tag)
 
 -- the bytes of a known tag's payload
 unfoldable pub payload : ℕ → ℕ
-payload tag = Option.get_or (payload_of tag) 0
+payload tag = unwrap_or (payload_of tag) 0
 
 -- "A record is a tag byte, a two-byte length and the payload"
 abbrev pub tag : List ℕ → ℕ

@@ -2,11 +2,10 @@
 #![tactic(auto)]
 
 mod answers;
-mod numbers;
 mod reader;
 mod sizes;
 mod writer;
 
-pub use answers::{Event, Read};
+pub use answers::{BadRecord, Event};
 pub use reader::read;
 pub use writer::{size, write};
