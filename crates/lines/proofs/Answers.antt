@@ -3,16 +3,17 @@
 use Prim.Native.Nat.{ℕ}
 use mathlib.Core.Path.{◌≡◌, refl, ap, sym, ◌∙◌, subst}
 use mathlib.Core.Bool.{Bool, true, false, cond, ◌&&◌}
-use mathlib.Core.Option.{Option, none, some}
+use Rattle.std.specs.Prelude.{Option, None, Some}
 use mathlib.Core.List.{List, [], ◌∷◌, ◌++◌, map}
 use native.Mathlib.Nat.{zero-add}
 use lib.Dec.{eqb}
 use Rattle.rules.specs.Turn.{Reply as Said}
-use Rattle.turns.specs.declared.Refusal.{Refusal}
+use Rattle.records.specs.declared.answers.BadRecord.{BadRecord}
 use Rattle.turns.specs.Calls.{turned, paper_reply}
 use Rattle.turns.specs.State.{Asking, made}
 use Rattle.turns.specs.Promised.{exchanges}
 use Rattle.turns.proofs.Promised.{promised}
+use Rattle.records.specs.Answer.{bad_number, bad_detail}
 use Rattle.records.specs.Rows.{Detail}
 use Rattle.lines.specs.Serve.{serve_of, card_lines}
 use Rattle.lines.specs.Asked.{asked, replies, lines_of, last_line}
@@ -23,11 +24,11 @@ use Rattle.lines.proofs.Newline.{a_line_each}
 use Rattle.lines.proofs.Parts.{parts_same}
 use Rattle.lines.proofs.Answered.{answered_now, AllAnswered, all-answered}
 
-all-now : (o : Option Refusal) → answered_now true o ≡ o
-all-now none = refl
-all-now (some r) = go (eqb r.number 20)
+all-now : (o : Option BadRecord) → answered_now true o ≡ o
+all-now None = refl
+all-now (Some r) = go (eqb (bad_number r) 20)
   where
-    go : (t : Bool) → cond (t && false) none (some r) ≡ some r
+    go : (t : Bool) → cond (t && false) None (Some r) ≡ Some r
     go true = refl
     go false = refl
 
@@ -48,10 +49,10 @@ answers input =
       lines_are = lines;
       a_line_each = ap newlines lines ∙ a_line_each (asked input);
       empty-none = λ e. ap card_lines e ∙ nothing_written;
-      in_any_parts = λ ps e. parts_same ps (made []) 0 [] ∙ ap (λ (s : List ℕ). serve_of (made []) 0 s true none) e;
+      in_any_parts = λ ps e. parts_same ps (made []) 0 [] ∙ ap (λ (s : List ℕ). serve_of (made []) 0 s true None) e;
       stops_where = λ r e.
           let x = all.stops_where r (all-now (asked input).refusal ∙ e) in
-          (x.0, subst (λ (n : ℕ). Detail n r.detail) all.used-is x.1);
+          (x.0, subst (λ (n : ℕ). Detail n (bad_detail r)) all.used-is x.1);
       replies_are = replies-told (asked input).calls;
       promised = promised (asked input).calls;
     }
@@ -62,4 +63,4 @@ answers input =
     lines : card_lines input ≡ lines_of (replies (asked input).calls) ++ last_line (asked input).refusal
     lines =
         all.lines_are
-        ∙ ap (λ (o : Option Refusal). lines_of (replies (asked input).calls) ++ last_line o) (all-now (asked input).refusal)
+        ∙ ap (λ (o : Option BadRecord). lines_of (replies (asked input).calls) ++ last_line o) (all-now (asked input).refusal)

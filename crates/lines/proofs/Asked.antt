@@ -4,30 +4,24 @@ use Prim.Native.Nat.{ℕ, zero, suc, ◌+◌, ◌≤◌}
 use mathlib.Core.Path.{◌≡◌, refl, ap, sym, ◌∙◌, subst}
 use mathlib.Core.Bool.{Bool, true, false}
 use mathlib.Core.Logic.{inl, inr}
-use mathlib.Core.Option.{some}
+use Rattle.std.specs.Prelude.{Some, Result, Ok, Err}
 use mathlib.Core.List.{List, ◌∷◌}
 use native.Mathlib.Omega.{arith}
 use lib.Dec.{eqb}
 use lib.ListN.{length, drop, length-drop, length-append}
 use borrow.Author.Tests.{eq-eqb, ne_eqb}
 use Rattle.rules.specs.Lists.{Among}
-use Rattle.rules.specs.Turn.{Call}
-use Rattle.turns.specs.declared.Refusal.{Refusal}
-use Rattle.turns.specs.Calls.{call_of}
+use Rattle.records.specs.declared.answers.BadRecord.{BadRecord}
 use Rattle.turns.specs.State.{Asking}
 use Rattle.records.specs.declared.answers.Event.{Event}
-use Rattle.records.specs.declared.answers.Event.TheVariants.{Admit, Wake, Block, Remove, Tick}
-use Rattle.records.specs.declared.answers.Read.{Read}
-use Rattle.records.specs.declared.answers.Read.TheVariants.{Event as Got, No}
 use Rattle.records.specs.Record.{told}
-use Rattle.records.specs.Answer.{paper_event, read_spec}
+use Rattle.records.specs.Answer.{bad_number, bad_detail, paper_event, read_spec}
 use Rattle.records.specs.Encode.{size_of, record_of}
 use Rattle.records.specs.Rows.{Detail}
 use Rattle.records.proofs.Offset.{told-detail}
 use Rattle.records.proofs.Written.{length-record}
 use Rattle.records.proofs.Cases.{short-header, unknown-tag, other_length, short-payload, whole-record, answers}
 use Rattle.records.proofs.Behind.{Case, header, unknown, other, short, whole, case}
-use Rattle.lines.specs.Serve.{time_of, change_of}
 use Rattle.lines.specs.Asked.{asking_of, ends, reads, asks, asked_after, sent}
 use Rattle.lines.specs.Answers.{stops_at}
 use Rattle.lines.proofs.Reading.{some_bytes}
@@ -64,9 +58,9 @@ fuel (suc k) (suc j) before offset s h g =
     go true t ih = asks-end (suc k) before offset s t ∙ sym (asks-end (suc j) before offset s t)
     go false t ih = asks-reads k before offset s t ∙ each (read_spec offset s) ∙ sym (asks-reads j before offset s t)
       where
-        each : (r : Read) → reads (asks k) before offset s r ≡ reads (asks j) before offset s r
-        each (Got e) = ih e
-        each (No r) = refl
+        each : (r : Result Event BadRecord) → reads (asks k) before offset s r ≡ reads (asks j) before offset s r
+        each (Ok e) = ih e
+        each (Err r) = refl
 
 module _ (before : List Asking) (offset : ℕ) (s : List ℕ) where
   pub asked-end : length s ≡ 0 → asked_after before offset s ≡ ends before
@@ -80,7 +74,7 @@ module _ (before : List Asking) (offset : ℕ) (s : List ℕ) where
       ∙ asks-reads (length s) before offset s (ne_eqb (length s) 0 (λ z. absurd (omega arith)))
 
   -- a record's call, then those of the bytes behind it
-  pub asked-event : (e : Event) → 1 ≤ length s → read_spec offset s ≡ Got e
+  pub asked-event : (e : Event) → 1 ≤ length s → read_spec offset s ≡ Ok e
       → asked_after before offset s ≡ asked_after (asking_of e ∷ before) (offset + size_of e) (drop (size_of e) s)
   unfolding asked_after
   asked-event e some_left h =
@@ -90,12 +84,12 @@ module _ (before : List Asking) (offset : ℕ) (s : List ℕ) where
       (omega (arith, length-drop (size_of e) s)) (omega arith)
 
   -- "on a refusal reading ends there"
-  pub asked-no : (r : Refusal) → 1 ≤ length s → read_spec offset s ≡ No r
-      → asked_after before offset s ≡ record { calls = before; refusal = some r }
+  pub asked-no : (r : BadRecord) → 1 ≤ length s → read_spec offset s ≡ Err r
+      → asked_after before offset s ≡ record { calls = before; refusal = Some r }
   asked-no r some_left h = asked-reads some_left ∙ ap (reads (asks (length s)) before offset s) h
 
-no-at : (offset : ℕ) (s : List ℕ) (r : Refusal) → Case s → read_spec offset s ≡ No r
-    → Among r.number stops_at × (r.detail ≡ told offset)
+no-at : (offset : ℕ) (s : List ℕ) (r : BadRecord) → Case s → read_spec offset s ≡ Err r
+    → Among (bad_number r) stops_at × (bad_detail r ≡ told offset)
 no-at offset s r (header h) e = let x = answers offset s _ (short-header offset s h) in (inl cc, cc)
 no-at offset s r (unknown h k) e = let x = answers offset s _ (unknown-tag offset s h k) in (inr (inl cc), cc)
 no-at offset s r (other h k n) e = let x = answers offset s _ (other_length offset s h k n) in (inr (inr (inl cc)), cc)
@@ -106,23 +100,13 @@ no-at offset s r (whole h k l p) e =
     absurd (omega arith)
 
 -- a record is refused with 20, 21 or 22, and its offset
-pub refused-at : (offset : ℕ) (s : List ℕ) (r : Refusal) → read_spec offset s ≡ No r → Among r.number stops_at × Detail offset r.detail
+pub refused-at : (offset : ℕ) (s : List ℕ) (r : BadRecord) → read_spec offset s ≡ Err r → Among (bad_number r) stops_at × Detail offset (bad_detail r)
 refused-at offset s r h =
     let n = no-at offset s r (case s) h in
     (n.0, subst (Detail offset) (sym n.1) (told-detail offset))
-
--- an event has the values of the call that it asks for
-pub same-values : (e : Event) → call_of (time_of e) (change_of e) ≡ paper_event e
-same-values (Admit m d) = refl
-same-values (Wake m t) = refl
-same-values (Block m t) = refl
-same-values (Remove m t) = refl
-same-values (Tick m) = refl
 
 -- its record stands behind those of the calls before
 pub sent-size : (e : Event) (before : List Asking) → length (sent (asking_of e ∷ before)) ≡ length (sent before) + size_of e
 unfolding size_of
 sent-size e before =
-    let c : Call = call_of (time_of e) (change_of e) in
-    length-append (sent before) (record_of c)
-    ∙ ap (λ (n : ℕ). length (sent before) + n) (ap (λ (x : Call). length (record_of x)) (same-values e) ∙ length-record (paper_event e))
+    length-append (sent before) (record_of (paper_event e)) ∙ ap (λ (n : ℕ). length (sent before) + n) (length-record (paper_event e))

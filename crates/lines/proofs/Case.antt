@@ -3,11 +3,12 @@
 use Prim.Native.Nat.{ℕ}
 use mathlib.Core.Path.{◌≡◌, refl, ap}
 use mathlib.Core.List.{List, [], ◌∷◌, ◌++◌}
-use mathlib.Core.Option.{some}
+use Rattle.std.specs.Prelude.{Some}
 use Rattle.units.specs.Units.{moment, amount, tunnel}
 use Rattle.turns.specs.declared.Change.{Change}
 use Rattle.turns.specs.declared.Change.TheVariants.{Admit, Wake, Block, Remove, Tick}
 use Rattle.turns.specs.State.{Asking}
+use Rattle.records.specs.declared.answers.BadRecord.TheVariants.{CutShort}
 use Rattle.records.specs.Record.{known, payload_of, payload, call, reading}
 use Rattle.records.specs.Answer.{read_spec}
 use Rattle.records.specs.Encode.{head, record_of, size_of}
@@ -36,7 +37,7 @@ calls =
     ∷ []
 
 -- "one byte, 5, then the end"; its line is `no 20 137`
-pub case : asked (sent calls ++ (5 ∷ [])) ≡ record { calls = calls; refusal = some (record { number = 20; detail = 137 }) }
+pub case : asked (sent calls ++ (5 ∷ [])) ≡ record { calls = calls; refusal = Some (CutShort 137) }
 unfolding asked_after asks read_spec reading known payload_of payload call size_of record_of head
 case = refl
 

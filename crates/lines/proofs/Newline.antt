@@ -2,22 +2,24 @@
 use Prim.Native.Nat.{ℕ, zero, suc, ◌+◌, ◌/◌, ◌%◌, ◌≤◌, ◌<◌}
 use mathlib.Core.Path.{◌≡◌, refl, ap, ◌∙◌}
 use mathlib.Core.Logic.{◌⊎◌, inl, inr}
-use mathlib.Core.Option.{Option, none, some}
+use Rattle.std.specs.Prelude.{Option, None, Some, Result}
+use Rattle.std.proofs.Math.Option as Maths
+use Rattle.std.proofs.Math.Option.{none, some}
 use mathlib.Core.List.{List, [], ◌∷◌, ◌++◌}
 use native.Mathlib.Omega.{arith}
 use lib.ListN.{length}
 use borrow.Author.Tests.{ne_eqb}
-use Rattle.turns.specs.declared.Holder.{Holder}
-use Rattle.turns.specs.declared.Holder.TheVariants.{Idle, Vcpu}
-use Rattle.turns.specs.declared.Timer.{Timer}
-use Rattle.turns.specs.declared.Timer.TheVariants.{Unset, At}
+use Rattle.rules.specs.Refuse.{Refusal as Row}
+use Rattle.rules.specs.Turn.{Reply as Said}
+use Rattle.rules.specs.Turn.{ok, refused}
+use Rattle.turns.specs.declared.Report.{Report}
 use Rattle.turns.specs.declared.Refusal.{Refusal}
-use Rattle.turns.specs.declared.Reply.{Reply}
-use Rattle.turns.specs.declared.Reply.TheVariants.{Done, No}
-use Rattle.turns.specs.Calls.{turned}
+use Rattle.records.specs.declared.answers.BadRecord.{BadRecord}
+use Rattle.records.specs.Answer.{paper_bad}
+use Rattle.turns.specs.Calls.{paper_reply, turned}
 use Rattle.turns.specs.State.{Asking, made}
 use Rattle.text.specs.Text.{figures, decimal, fields}
-use Rattle.lines.specs.Text.{holder_text, timer_text, refusal_text, line_of}
+use Rattle.lines.specs.Text.{or_dash, refusal_text, line_said, line_of}
 use Rattle.lines.specs.Asked.{Asked, refused_records, records, replies, lines_of, last_line}
 use Rattle.lines.specs.Answers.{newlines}
 use Rattle.text.proofs.Figures.{one-or-more, figures-one, figures-step}
@@ -39,18 +41,14 @@ figures-none (suc k) n = go (one-or-more n) (figures-none k (n / 10))
     go (inr h) r =
         ap newlines (figures-step k n h) ∙ newlines-append (figures k (n / 10)) ((48 + n % 10) ∷ []) ∙ omega (arith, r, digit (n % 10))
 
-holder-none : (h : Holder) → newlines (holder_text h) ≡ 0
-holder-none Idle = refl
-holder-none (Vcpu t) = figures-none 20 t.0
-
-timer-none : (t : Timer) → newlines (timer_text t) ≡ 0
-timer-none Unset = refl
-timer-none (At t) = figures-none 20 t.0
+dash-none : (o : Maths.Option ℕ) → newlines (or_dash o) ≡ 0
+dash-none none = refl
+dash-none (some n) = figures-none 20 n
 
 field-none : (f : List ℕ) (fs : List (List ℕ)) → newlines f ≡ 0 → newlines (fields (f ∷ fs)) ≡ newlines (fields fs)
 field-none f fs h = omega (arith, h, newlines-append f (fields fs))
 
-refusal-one : (r : Refusal) → newlines (refusal_text r) ≡ 1
+refusal-one : (r : Row) → newlines (refusal_text r) ≡ 1
 refusal-one r =
     let m : List (List ℕ) = decimal r.detail ∷ [] in
     omega (
@@ -59,31 +57,31 @@ refusal-one r =
       field-none (decimal r.detail) [] (figures-none 20 r.detail),
     )
 
-line-one : (r : Reply) → newlines (line_of r) ≡ 1
-line-one (Done r) =
-    let t : List (List ℕ) = decimal r.brought.0 ∷ [] in
-    let m : List (List ℕ) = timer_text r.timer ∷ t in
-    let u : List (List ℕ) = decimal r.usable.0 ∷ m in
-    let h : List (List ℕ) = holder_text r.run ∷ u in
+said-one : (r : Said) → newlines (line_said r) ≡ 1
+said-one (ok r) =
+    let t : List (List ℕ) = decimal r.brought ∷ [] in
+    let m : List (List ℕ) = or_dash r.timer ∷ t in
+    let u : List (List ℕ) = decimal r.usable ∷ m in
+    let h : List (List ℕ) = or_dash r.run ∷ u in
     omega (
       arith,
-      field-none (decimal r.time.0) h (figures-none 20 r.time.0),
-      field-none (holder_text r.run) u (holder-none r.run),
-      field-none (decimal r.usable.0) m (figures-none 20 r.usable.0),
-      field-none (timer_text r.timer) t (timer-none r.timer),
-      field-none (decimal r.brought.0) [] (figures-none 20 r.brought.0),
+      field-none (decimal r.time) h (figures-none 20 r.time),
+      field-none (or_dash r.run) u (dash-none r.run),
+      field-none (decimal r.usable) m (figures-none 20 r.usable),
+      field-none (or_dash r.timer) t (dash-none r.timer),
+      field-none (decimal r.brought) [] (figures-none 20 r.brought),
     )
-line-one (No r) = refusal-one r
+said-one (refused r) = refusal-one r
 
 calls-one : (calls : List Asking) → newlines (lines_of (replies calls)) ≡ length calls
 calls-one [] = refl
 calls-one (a ∷ before) =
-    let r : Reply = (turned (made before) a.now a.change).reply in
-    newlines-append (lines_of (replies before)) (line_of r) ∙ omega (arith, calls-one before, line-one r)
+    let r : Result Report Refusal = (turned (made before) a.now a.change).reply in
+    newlines-append (lines_of (replies before)) (line_of r) ∙ omega (arith, calls-one before, said-one (paper_reply r))
 
-last_one : (o : Option Refusal) → newlines (last_line o) ≡ refused_records o
-last_one none = refl
-last_one (some r) = refusal-one r
+last_one : (o : Option BadRecord) → newlines (last_line o) ≡ refused_records o
+last_one None = refl
+last_one (Some b) = refusal-one (paper_bad b)
 
 -- as many newlines as records
 pub a_line_each : (a : Asked) → newlines (lines_of (replies a.calls) ++ last_line a.refusal) ≡ records a

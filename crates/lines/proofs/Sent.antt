@@ -1,9 +1,9 @@
 -- The input is the records of the calls that it asks for, and then what reading ended at; and calls in range that are sent as records are
 -- the calls asked for. Assumes nothing.
 use Prim.Native.Nat.{ℕ, zero, suc, ◌+◌, ◌≤◌}
-use mathlib.Core.Path.{◌≡◌, refl, ap, sym, ◌∙◌, subst}
+use mathlib.Core.Path.{◌≡◌, refl, ap, sym, ◌∙◌}
 use mathlib.Core.Bool.{Bool, true, false}
-use mathlib.Core.Option.{Option, none, some}
+use Rattle.std.specs.Prelude.{Option, None, Some, Result, Ok, Err}
 use mathlib.Core.List.{List, [], ◌∷◌, ◌++◌, append_assoc}
 use native.Mathlib.Omega.{arith}
 use lib.Dec.{eqb}
@@ -11,18 +11,10 @@ use lib.ListN.{length, drop, length-drop, length-append, take-append-drop}
 use lib.Seq.{drop_at}
 use borrow.Author.Tests.{eqb-true, eqb-false}
 use Rattle.rules.specs.Lists.{All}
-use Rattle.rules.specs.Turn.{Call}
-use Rattle.units.specs.declared.Moment.{Moment}
-use Rattle.turns.specs.declared.Change.{Change}
-use Rattle.turns.specs.declared.Change.TheVariants.{Admit as AskAdmit, Wake as AskWake, Block as AskBlock}
-use Rattle.turns.specs.declared.Change.TheVariants.{Remove as AskRemove, Tick as AskTick}
 use Rattle.turns.specs.Calls.{call_of}
-use Rattle.turns.specs.declared.Refusal.{Refusal}
+use Rattle.records.specs.declared.answers.BadRecord.{BadRecord}
 use Rattle.turns.specs.State.{Asking, calls_of}
 use Rattle.records.specs.declared.answers.Event.{Event}
-use Rattle.records.specs.declared.answers.Event.TheVariants.{Admit, Wake, Block, Remove, Tick}
-use Rattle.records.specs.declared.answers.Read.{Read}
-use Rattle.records.specs.declared.answers.Read.TheVariants.{Event as Got, No}
 use Rattle.records.specs.Bytes.{AreBytes}
 use Rattle.records.specs.Answer.{read_spec}
 use Rattle.records.specs.Encode.{size_of, record_of, InRange}
@@ -30,11 +22,10 @@ use Rattle.records.specs.Answer.{paper_event}
 use Rattle.records.proofs.Again.{read_again}
 use Rattle.records.proofs.Back.{event-reads-back}
 use Rattle.records.proofs.Written.{length-record}
-use Rattle.lines.specs.Serve.{time_of, change_of}
 use Rattle.lines.specs.Asked.{Asked, asking_of, asked_after, asked, sent, Ended}
 use Rattle.lines.proofs.Reading.{some_bytes}
 use Rattle.lines.proofs.Rest.{no_bytes}
-use Rattle.lines.proofs.Asked.{asked-end, asked-event, asked-no, same-values, sent-size}
+use Rattle.lines.proofs.Asked.{asked-end, asked-event, asked-no, sent-size}
 
 pub bytes-behind : (n : ℕ) (s : List ℕ) → AreBytes s → AreBytes (drop n s)
 bytes-behind zero s h = h
@@ -55,27 +46,26 @@ bytes (suc k) before offset s o few h =
     bytes k (asking_of e ∷ before) (offset + size_of e) (drop (size_of e) s) (omega (arith, o, sent-size e before))
     (omega (arith, some_bytes e, length-drop (size_of e) s)) (bytes-behind (size_of e) s h))
   where
-    go : (z : Bool) → eqb (length s) 0 ≡ z → (r : Read) → read_spec offset s ≡ r
+    go : (z : Bool) → eqb (length s) 0 ≡ z → (r : Result Event BadRecord) → read_spec offset s ≡ r
         → ((e : Event) → 1 ≤ length s →
         Rest (asking_of e ∷ before) (drop (size_of e) s) (asked_after (asking_of e ∷ before) (offset + size_of e) (drop (size_of e) s)))
         → Rest before s (asked_after before offset s)
     go true z r g ih =
         let n : length s ≡ 0 = eqb-true (length s) 0 z in
         rw (asked-end before offset s n) (s, refl, no_bytes s n)
-    go false z (No r) g ih =
+    go false z (Err r) g ih =
         let some_left : 1 ≤ length s = omega (arith, eqb-false (length s) 0 z) in
         rw (asked-no before offset s r some_left g) (s, refl, (some_left, ap (λ (n : ℕ). read_spec n s) (sym o) ∙ g))
-    go false z (Got e) g ih =
+    go false z (Ok e) g ih =
         let some_left : 1 ≤ length s = omega (arith, eqb-false (length s) 0 z) in
         let q = ih e some_left in
-        let whole : record_of (call_of (time_of e) (change_of e)) ++ drop (size_of e) s ≡ s =
-        ap (λ (c : Call). record_of c ++ drop (size_of e) s) (same-values e)
-        ∙ ap (λ (l : List ℕ). l ++ drop (size_of e) s) (read_again offset s e h g).1
+        let whole : record_of (paper_event e) ++ drop (size_of e) s ≡ s =
+        ap (λ (l : List ℕ). l ++ drop (size_of e) s) (read_again offset s e h g).1
         ∙ take-append-drop (size_of e) s in
         rw (asked-event before offset s e some_left g) (
           q.0,
           ap (λ (l : List ℕ). sent before ++ l) (sym whole)
-              ∙ sym (append_assoc (sent before) (record_of (call_of (time_of e) (change_of e))) (drop (size_of e) s))
+              ∙ sym (append_assoc (sent before) (record_of (paper_event e)) (drop (size_of e) s))
               ∙ q.1,
           q.2,
         )
@@ -84,45 +74,19 @@ bytes (suc k) before offset s o few h =
 pub asked-bytes : (before : List Asking) (s : List ℕ) → AreBytes s → Rest before s (asked_after before (length (sent before)) s)
 asked-bytes before s h = bytes (length s) before (length (sent before)) s refl (omega arith) h
 
--- the event of a call
-abbrev event_for : Moment → Change → Event
-event_for now (AskAdmit d) = Admit now d
-event_for now (AskWake t) = Wake now t
-event_for now (AskBlock t) = Block now t
-event_for now (AskRemove t) = Remove now t
-event_for now AskTick = Tick now
-
-module _ (now : Moment) where
-  for_asks : (c : Change) → asking_of (event_for now c) ≡ record { now = now; change = c }
-  for_asks (AskAdmit d) = refl
-  for_asks (AskWake t) = refl
-  for_asks (AskBlock t) = refl
-  for_asks (AskRemove t) = refl
-  for_asks AskTick = refl
-
-  for_says : (c : Change) → paper_event (event_for now c) ≡ call_of now c
-  for_says (AskAdmit d) = refl
-  for_says (AskWake t) = refl
-  for_says (AskBlock t) = refl
-  for_says (AskRemove t) = refl
-  for_says AskTick = refl
-
 -- a record in front asks for its call
 one-sent : (a : Asking) (before : List Asking) (t : List ℕ) → InRange (call_of a.now a.change)
     → asked_after before (length (sent before)) (record_of (call_of a.now a.change) ++ t)
     ≡ asked_after (a ∷ before) (length (sent (a ∷ before))) t
 unfolding size_of
 one-sent a before t h =
-    let e : Event = event_for a.now a.change in
-    let same : paper_event e ≡ call_of a.now a.change = for_says a.now a.change in
+    let e : Event = record { time = a.now; change = a.change } in
     let r : List ℕ = record_of (paper_event e) in
     let offset : ℕ = length (sent before) in
     let long = length-record (paper_event e) in
-    ap (λ (c : Call). asked_after before offset (record_of c ++ t)) (sym same)
-    ∙ asked-event before offset (r ++ t) e (omega (arith, length-append r t)) (event-reads-back offset e (subst InRange (sym same) h) t)
-    ∙ ap (asked_after (asking_of e ∷ before) (offset + size_of e)) (drop_at r t (size_of e) long)
-    ∙ ap (λ (n : ℕ). asked_after (asking_of e ∷ before) n t) (sym (sent-size e before))
-    ∙ ap (λ (b : Asking). asked_after (b ∷ before) (length (sent (b ∷ before))) t) (for_asks a.now a.change)
+    asked-event before offset (r ++ t) e (omega (arith, length-append r t)) (event-reads-back offset e h t)
+    ∙ ap (asked_after (a ∷ before) (offset + size_of e)) (drop_at r t (size_of e) long)
+    ∙ ap (λ (n : ℕ). asked_after (a ∷ before) n t) (sym (sent-size e before))
 
 sent-then : (calls : List Asking) (t : List ℕ) → All InRange (calls_of calls)
     → asked (sent calls ++ t) ≡ asked_after calls (length (sent calls)) t
@@ -132,7 +96,7 @@ sent-then (a ∷ calls) t h =
     ap asked (append_assoc (sent calls) r t) ∙ sent-then calls (r ++ t) h.1 ∙ one-sent a calls t h.0
 
 -- the other way: calls in range, sent as their records, are the calls asked for, and what lies behind them is where reading ends
-pub sent-asked : (calls : List Asking) (rest : List ℕ) (o : Option Refusal) → All InRange (calls_of calls)
+pub sent-asked : (calls : List Asking) (rest : List ℕ) (o : Option BadRecord) → All InRange (calls_of calls)
     → Ended (length (sent calls)) rest o → asked (sent calls ++ rest) ≡ record { calls = calls; refusal = o }
-sent-asked calls rest none h e = sent-then calls rest h ∙ asked-end calls (length (sent calls)) rest (ap length e)
-sent-asked calls rest (some r) h e = sent-then calls rest h ∙ asked-no calls (length (sent calls)) rest r e.0 e.1
+sent-asked calls rest None h e = sent-then calls rest h ∙ asked-end calls (length (sent calls)) rest (ap length e)
+sent-asked calls rest (Some r) h e = sent-then calls rest h ∙ asked-no calls (length (sent calls)) rest r e.0 e.1

@@ -4,21 +4,22 @@ use Prim.Native.Nat.{ℕ, zero, suc, ◌+◌, ◌/◌, ◌%◌, ◌^◌, ◌≤�
 use mathlib.Core.Path.{◌≡◌, refl, ap, sym, ◌∙◌, subst}
 use mathlib.Core.Logic.{◌⊎◌, inl, inr}
 use mathlib.Core.List.{List, [], ◌∷◌, ◌++◌}
+use mathlib.Core.Option.{Option, none, some}
+use Rattle.std.specs.Prelude.{Result}
 use native.Mathlib.Omega.{arith}
-use Rattle.units.specs.Units.{moment, amount, tunnel}
 use Rattle.rules.specs.Lists.{All}
-use Rattle.rules.proofs.Lists.{all_imp}
-use Rattle.turns.specs.declared.Holder.{Holder}
-use Rattle.turns.specs.declared.Holder.TheVariants.{Idle, Vcpu}
-use Rattle.turns.specs.declared.Timer.{Timer}
-use Rattle.turns.specs.declared.Timer.TheVariants.{Unset, At}
+use Rattle.rules.specs.Refuse.{Refusal as Row}
+use Rattle.rules.specs.Turn.{Report as ReportRule}
+use Rattle.rules.specs.Turn.{Reply as Said}
+use Rattle.rules.specs.Turn.{ok, refused}
 use Rattle.turns.specs.declared.Report.{Report}
 use Rattle.turns.specs.declared.Refusal.{Refusal}
-use Rattle.turns.specs.declared.Reply.{Reply}
-use Rattle.turns.specs.declared.Reply.TheVariants.{Done, No}
+use Rattle.turns.specs.Calls.{paper_reply, reply_said}
+use Rattle.turns.proofs.Paper.{said-paper}
+use Rattle.rules.proofs.Lists.{all_imp}
 use Rattle.text.specs.Text.{figures, decimal, number, fields}
 use Rattle.text.proofs.Figures.{one-or-more, figures-one, figures-step, decimal-says}
-use Rattle.lines.specs.Text.{dash, holder_text, timer_text, line_of}
+use Rattle.lines.specs.Text.{dash, or_dash, line_said, line_of}
 
 -- no space and no newline in it
 abbrev Plain : List ℕ → Type 0
@@ -68,75 +69,65 @@ same_number n m h k e = sym (decimal-says n h) ∙ ap number e ∙ decimal-says 
 no-dash : {A : Type 0} (n : ℕ) → dash ≡ decimal n → A
 no-dash n e = absurd (omega (arith, (subst (All (λ b. 48 ≤ b)) (sym e) (digits 20 n)).0))
 
-abbrev pub HolderFits : Holder → Type 0
-HolderFits Idle = Unit {0}
-HolderFits (Vcpu t) = t.0 < 2 ^ 64
-
-abbrev pub TimerFits : Timer → Type 0
-TimerFits Unset = Unit {0}
-TimerFits (At m) = m.0 < 2 ^ 64
+abbrev pub IfThereFits : Option ℕ → Type 0
+IfThereFits none = Unit {0}
+IfThereFits (some n) = n < 2 ^ 64
 
 -- its numbers are below 2 ^ 64
-abbrev pub Fits : Reply → Type 0
-Fits (Done r) =
-    (r.time.0 < 2 ^ 64) × (HolderFits r.run) × (r.usable.0 < 2 ^ 64) × (TimerFits r.timer) × (r.brought.0 < 2 ^ 64)
-Fits (No r) = (r.number < 2 ^ 64) × (r.detail < 2 ^ 64)
+abbrev pub Fits : Said → Type 0
+Fits (ok r) =
+    (r.time < 2 ^ 64) × (IfThereFits r.run) × (r.usable < 2 ^ 64) × (IfThereFits r.timer) × (r.brought < 2 ^ 64)
+Fits (refused r) = (r.number < 2 ^ 64) × (r.detail < 2 ^ 64)
 
-plain-holder : (h : Holder) → Plain (holder_text h)
-plain-holder Idle = (omega arith, tt)
-plain-holder (Vcpu t) = plain-decimal t.0
+plain-dash : (o : Option ℕ) → Plain (or_dash o)
+plain-dash none = (omega arith, tt)
+plain-dash (some n) = plain-decimal n
 
-plain-timer : (t : Timer) → Plain (timer_text t)
-plain-timer Unset = (omega arith, tt)
-plain-timer (At m) = plain-decimal m.0
+same-dash : (o p : Option ℕ) → IfThereFits o → IfThereFits p → or_dash o ≡ or_dash p → o ≡ p
+same-dash none none p q e = refl
+same-dash none (some n) p q e = no-dash n e
+same-dash (some n) none p q e = no-dash n (sym e)
+same-dash (some n) (some m) p q e = ap some (same_number n m p q e)
 
-same-holder : (h k : Holder) → HolderFits h → HolderFits k → holder_text h ≡ holder_text k → h ≡ k
-same-holder Idle Idle p q e = refl
-same-holder Idle (Vcpu t) p q e = no-dash t.0 e
-same-holder (Vcpu t) Idle p q e = no-dash t.0 (sym e)
-same-holder (Vcpu t) (Vcpu u) p q e = ap (λ (n : ℕ). Vcpu (tunnel n)) (same_number t.0 u.0 p q e)
-
-same-timer : (t u : Timer) → TimerFits t → TimerFits u → timer_text t ≡ timer_text u → t ≡ u
-same-timer Unset Unset p q e = refl
-same-timer Unset (At m) p q e = no-dash m.0 e
-same-timer (At m) Unset p q e = no-dash m.0 (sym e)
-same-timer (At m) (At n) p q e = ap (λ (k : ℕ). At (moment k)) (same_number m.0 n.0 p q e)
-
-same-report : {a a' : ℕ} {h h' : Holder} {u u' : ℕ} {t t' : Timer} {b b' : ℕ} → a ≡ a' → h ≡ h' → u ≡ u' → t ≡ t' → b ≡ b'
-    → ◌≡◌ {A = Report} (record { time = moment a; run = h; usable = amount u; timer = t; brought = amount b })
-    (record { time = moment a'; run = h'; usable = amount u'; timer = t'; brought = amount b' })
+same-report : {a a' : ℕ} {h h' : Option ℕ} {u u' : ℕ} {t t' : Option ℕ} {b b' : ℕ} → a ≡ a' → h ≡ h' → u ≡ u' → t ≡ t' → b ≡ b'
+    → ◌≡◌ {A = ReportRule} (record { time = a; run = h; usable = u; timer = t; brought = b })
+    (record { time = a'; run = h'; usable = u'; timer = t'; brought = b' })
 same-report e f g k l = rw (e, f, g, k, l)
 
 same-refusal : {a a' b b' : ℕ} → a ≡ a' → b ≡ b'
-    → ◌≡◌ {A = Refusal} (record { number = a; detail = b }) (record { number = a'; detail = b' })
+    → ◌≡◌ {A = Row} (record { number = a; detail = b }) (record { number = a'; detail = b' })
 same-refusal e f = rw (e, f)
 
--- a line shows its reply and no other
-pub line-shows : (r q : Reply) → Fits r → Fits q → line_of r ≡ line_of q → r ≡ q
-line-shows (Done r) (No q) p k e = let z : ◌≡◌ {A = ℕ} 111 110 = cc in absurd (omega arith)
-line-shows (No r) (Done q) p k e = let z : ◌≡◌ {A = ℕ} 110 111 = cc in absurd (omega arith)
-line-shows (No r) (No q) p k e =
+-- a line shows the numbers of its reply and no others, those of a record that is not read among them
+pub said-shows : (r q : Said) → Fits r → Fits q → line_said r ≡ line_said q → r ≡ q
+said-shows (ok r) (refused q) p k e = let z : ◌≡◌ {A = ℕ} 111 110 = cc in absurd (omega arith)
+said-shows (refused r) (ok q) p k e = let z : ◌≡◌ {A = ℕ} 110 111 = cc in absurd (omega arith)
+said-shows (refused r) (refused q) p k e =
     let s : fields (decimal r.number ∷ decimal r.detail ∷ []) ≡ fields (decimal q.number ∷ decimal q.detail ∷ []) = cc in
     let a = next_field (decimal r.number) (decimal q.number) (decimal r.detail ∷ []) (decimal q.detail ∷ [])
     (plain-decimal r.number) (plain-decimal q.number) s in
     let b = next_field (decimal r.detail) (decimal q.detail) [] [] (plain-decimal r.detail) (plain-decimal q.detail) a.1 in
-    ap No
+    ap refused
     (same-refusal (same_number r.number q.number p.0 k.0 a.0) (same_number r.detail q.detail p.1 k.1 b.0))
-line-shows (Done r) (Done q) p k e =
-    let t : Report → List (List ℕ) = λ x. decimal x.brought.0 ∷ [] in
-    let m : Report → List (List ℕ) = λ x. timer_text x.timer ∷ t x in
-    let u : Report → List (List ℕ) = λ x. decimal x.usable.0 ∷ m x in
-    let h : Report → List (List ℕ) = λ x. holder_text x.run ∷ u x in
-    let s : fields (decimal r.time.0 ∷ h r) ≡ fields (decimal q.time.0 ∷ h q) = cc in
-    let a = next_field (decimal r.time.0) (decimal q.time.0) (h r) (h q)
-    (plain-decimal r.time.0) (plain-decimal q.time.0) s in
-    let b = next_field (holder_text r.run) (holder_text q.run) (u r) (u q) (plain-holder r.run) (plain-holder q.run) a.1 in
-    let c = next_field (decimal r.usable.0) (decimal q.usable.0) (m r) (m q)
-    (plain-decimal r.usable.0) (plain-decimal q.usable.0) b.1 in
-    let d = next_field (timer_text r.timer) (timer_text q.timer) (t r) (t q) (plain-timer r.timer) (plain-timer q.timer) c.1 in
-    let i = next_field (decimal r.brought.0) (decimal q.brought.0) [] []
-    (plain-decimal r.brought.0) (plain-decimal q.brought.0) d.1 in
-    ap Done
-    (same-report (same_number r.time.0 q.time.0 p.0 k.0 a.0) (same-holder r.run q.run p.1 k.1 b.0)
-    (same_number r.usable.0 q.usable.0 p.2 k.2 c.0) (same-timer r.timer q.timer p.3 k.3 d.0)
-    (same_number r.brought.0 q.brought.0 p.4 k.4 i.0))
+said-shows (ok r) (ok q) p k e =
+    let t : ReportRule → List (List ℕ) = λ x. decimal x.brought ∷ [] in
+    let m : ReportRule → List (List ℕ) = λ x. or_dash x.timer ∷ t x in
+    let u : ReportRule → List (List ℕ) = λ x. decimal x.usable ∷ m x in
+    let h : ReportRule → List (List ℕ) = λ x. or_dash x.run ∷ u x in
+    let s : fields (decimal r.time ∷ h r) ≡ fields (decimal q.time ∷ h q) = cc in
+    let a = next_field (decimal r.time) (decimal q.time) (h r) (h q)
+    (plain-decimal r.time) (plain-decimal q.time) s in
+    let b = next_field (or_dash r.run) (or_dash q.run) (u r) (u q) (plain-dash r.run) (plain-dash q.run) a.1 in
+    let c = next_field (decimal r.usable) (decimal q.usable) (m r) (m q)
+    (plain-decimal r.usable) (plain-decimal q.usable) b.1 in
+    let d = next_field (or_dash r.timer) (or_dash q.timer) (t r) (t q) (plain-dash r.timer) (plain-dash q.timer) c.1 in
+    let i = next_field (decimal r.brought) (decimal q.brought) [] []
+    (plain-decimal r.brought) (plain-decimal q.brought) d.1 in
+    ap ok
+    (same-report (same_number r.time q.time p.0 k.0 a.0) (same-dash r.run q.run p.1 k.1 b.0)
+    (same_number r.usable q.usable p.2 k.2 c.0) (same-dash r.timer q.timer p.3 k.3 d.0)
+    (same_number r.brought q.brought p.4 k.4 i.0))
+
+-- a line shows its reply and no other
+pub line-shows : (r q : Result Report Refusal) → Fits (paper_reply r) → Fits (paper_reply q) → line_of r ≡ line_of q → r ≡ q
+line-shows r q p k e = sym (said-paper r) ∙ ap reply_said (said-shows (paper_reply r) (paper_reply q) p k e) ∙ said-paper q

@@ -1,48 +1,55 @@
 -- Document 01, "Event records and lines": the line of a reply, byte for byte. Assumes nothing.
-use Rattle.std.specs.Prelude.{ℕ, cond, List, [], ◌∷◌, ◌++◌, ltb, length}
+use Rattle.std.specs.Prelude.{ℕ, cond, List, [], ◌∷◌, ◌++◌, ltb, length, Result, None, Some}
+use Rattle.std.specs.Prelude.{Option as Perhaps}
+use Rattle.std.proofs.Math.Option.{Option, none, some}
+use Rattle.rules.specs.Refuse.{Refusal as Row}
+use Rattle.rules.specs.Turn.{Report as ReportRule}
+use Rattle.rules.specs.Turn.{Reply as Said}
+use Rattle.rules.specs.Turn.{ok as accepted, refused}
 use Rattle.text.specs.Text.{decimal, ok, no, fields}
-use Rattle.turns.specs.declared.Holder.{Holder}
-use Rattle.turns.specs.declared.Holder.TheVariants.{Idle, Vcpu}
-use Rattle.turns.specs.declared.Timer.{Timer}
-use Rattle.turns.specs.declared.Timer.TheVariants.{Unset, At}
 use Rattle.turns.specs.declared.Report.{Report}
 use Rattle.turns.specs.declared.Refusal.{Refusal}
-use Rattle.turns.specs.declared.Reply.{Reply}
-use Rattle.turns.specs.declared.Reply.TheVariants.{Done, No}
+use Rattle.turns.specs.Calls.{paper_reply}
 
 -- "-"
 abbrev pub dash : List ℕ
 dash = 45 ∷ []
 
--- RUN, `-` for idle
-abbrev pub holder_text : Holder → List ℕ
-holder_text Idle = dash
-holder_text (Vcpu t) = decimal t.0
+-- RUN and TIMER, `-` for idle and for none
+abbrev pub or_dash : Option ℕ → List ℕ
+or_dash none = dash
+or_dash (some n) = decimal n
 
--- TIMER, `-` for none
-abbrev pub timer_text : Timer → List ℕ
-timer_text Unset = dash
-timer_text (At t) = decimal t.0
+-- between private functions: the same of the code's Option
+abbrev pub dashed : Perhaps ℕ → List ℕ
+dashed None = dash
+dashed (Some n) = decimal n
 
 -- `ok TIME RUN USABLE TIMER BROUGHT`
-abbrev pub report_text : Report → List ℕ
+abbrev pub report_text : ReportRule → List ℕ
 report_text r =
-    ok
-    ++ fields
-    (decimal r.time.0 ∷ holder_text r.run ∷ decimal r.usable.0 ∷ timer_text r.timer ∷ decimal r.brought.0 ∷ [])
+    ok ++ fields (decimal r.time ∷ or_dash r.run ∷ decimal r.usable ∷ or_dash r.timer ∷ decimal r.brought ∷ [])
 
 -- `no NUMBER DETAIL`
-abbrev pub refusal_text : Refusal → List ℕ
+abbrev pub refusal_text : Row → List ℕ
 refusal_text r = no ++ fields (decimal r.number ∷ decimal r.detail ∷ [])
 
-abbrev pub line_of : Reply → List ℕ
-line_of (Done r) = report_text r
-line_of (No r) = refusal_text r
+-- the line of a reply's number and values on paper, and that of a reply
+abbrev pub line_said : Said → List ℕ
+line_said (accepted r) = report_text r
+line_said (refused r) = refusal_text r
+
+abbrev pub line_of : Result Report Refusal → List ℕ
+line_of reply = line_said (paper_reply reply)
 
 -- no line is longer: two letters, five fields of at most 20 digits, each behind a space, and a newline
 abbrev pub longest : ℕ
 longest = 108
 
 -- the line, where a longest one has room
-abbrev pub line_in : Reply → List ℕ → List ℕ
+abbrev pub line_in : Result Report Refusal → List ℕ → List ℕ
 line_in reply out = cond (ltb (length out) longest) [] (line_of reply)
+
+-- .., and that of any refusal
+abbrev pub refusal_in : ℕ → ℕ → List ℕ → List ℕ
+refusal_in number detail out = cond (ltb (length out) longest) [] (refusal_text (record { number = number; detail = detail }))

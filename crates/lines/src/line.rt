@@ -1,83 +1,87 @@
-// The line of a reply: `ok TIME RUN USABLE TIMER BROUGHT` or `no NUMBER DETAIL`, and a newline.
-ghost use Rattle.std.specs.Prelude.{◌+◌, ◌≤◌, ◌≡◌, ◌∷◌, length};
+// The line of a reply: `ok TIME RUN USABLE TIMER BROUGHT` or `no NUMBER DETAIL`, and a newline. It is put into the lent buffer: `writeln!`
+// was timed, and costs three times as much a line.
+ghost use Rattle.std.specs.Prelude.{◌+◌, ◌≤◌, ◌≡◌, ◌∷◌, length, Ok};
 ghost use Rattle.text.specs.Text.{over, Put};
-ghost use Rattle.lines.specs.Text.{dash, holder_text, timer_text, report_text, refusal_text, line_of, line_in, longest};
+ghost use Rattle.turns.specs.Written.{number_in, moment_in};
+ghost use Rattle.lines.specs.Text.{dashed, or_dash, refusal_text, refusal_in, line_of, line_in, longest};
 
-use text::{put_end, put_field};
-use turns::{Holder, Refusal, Reply, Report, Timer};
+use text::{put_end, put_field, put_text};
+use turns::{Refusal, Report};
+use units::{Moment, Tunnel};
 
 // No line has more bytes: two letters, five numbers of at most 20 digits, each behind a space, and a newline.
 pub const LONGEST_LINE: usize = 108;
 
-// A space and `-`, for idle and for no timer.
-fn put_none(out: &mut [u8], at: usize) -> usize
+// RUN and TIMER: a space and the number, or a space and `-` where there is none.
+fn put_or_dash(out: &mut [u8], at: usize, number: Option<u64>) -> usize
     requires { at + 21 ≤ length out.old }
-    ensures { Put out.old at (32 ∷ dash) out.new result × (result ≤ at + 21) }
+    ensures { Put out.old at (32 ∷ dashed number) out.new result × (result ≤ at + 21) }
 {
-    out[at] = b' ';
-    out[at + 1] = b'-';
-    at + 2
+    match number {
+        Some(number) => put_field(out, at, number),
+        None => put_text(out, at, b" -"),
+    }
 }
 
-fn put_holder(out: &mut [u8], at: usize, run: Holder) -> usize
-    requires { at + 21 ≤ length out.old }
-    ensures { Put out.old at (32 ∷ holder_text run) out.new result × (result ≤ at + 21) }
+fn number(run: Option<Tunnel>) -> Option<u64>
+    ensures { dashed result ≡ or_dash (number_in run) }
 {
-    let Holder::Vcpu(tunnel) = run else {
-        return put_none(out, at);
-    };
-    put_field(out, at, tunnel.number() as u64)
+    run.map(|id| u64::from(id.number()))
 }
 
-fn put_timer(out: &mut [u8], at: usize, timer: Timer) -> usize
-    requires { at + 21 ≤ length out.old }
-    ensures { Put out.old at (32 ∷ timer_text timer) out.new result × (result ≤ at + 21) }
+fn ticks(timer: Option<Moment>) -> Option<u64>
+    ensures { dashed result ≡ or_dash (moment_in timer) }
 {
-    let Timer::At(moment) = timer else {
-        return put_none(out, at);
-    };
-    put_field(out, at, moment.ticks())
+    timer.map(Moment::ticks)
 }
 
+// (That there is room from a place on is a clause, here and below: a fact of lent memory, as `Put` states it.)
 fn put_report(out: &mut [u8], at: usize, report: Report) -> usize
     requires { at + longest ≤ length out.old }
-    ensures { Put out.old at (report_text report) out.new result × (result ≤ at + longest) }
+    ensures { Put out.old at (line_of (Ok report)) out.new result × (result ≤ at + longest) }
 {
-    out[at] = b'o';
-    out[at + 1] = b'k';
-    let run = report.run;
-    let timer = report.timer;
-    let a = put_field(out, at + 2, report.time.ticks());
-    let b = put_holder(out, a, run);
-    let c = put_field(out, b, report.usable.ticks() as u64);
-    let d = put_timer(out, c, timer);
-    let e = put_field(out, d, report.brought.ticks() as u64);
-    put_end(out, e)
+    let at = put_text(out, at, b"ok");
+    let at = put_field(out, at, report.time.ticks());
+    let at = put_or_dash(out, at, number(report.run));
+    let at = put_field(out, at, u64::from(report.usable.ticks()));
+    let at = put_or_dash(out, at, ticks(report.timer));
+    let at = put_field(out, at, u64::from(report.brought.ticks()));
+    put_end(out, at)
 }
 
-fn put_refusal(out: &mut [u8], at: usize, refusal: Refusal) -> usize
+pub(crate) fn put_refusal(out: &mut [u8], at: usize, number: u8, detail: u64) -> usize
     requires { at + longest ≤ length out.old }
-    ensures { Put out.old at (refusal_text refusal) out.new result × (result ≤ at + longest) }
+    ensures { Put out.old at (refusal_text (record { number = number; detail = detail })) out.new result × (result ≤ at + longest) }
 {
-    out[at] = b'n';
-    out[at + 1] = b'o';
-    let a = put_field(out, at + 2, refusal.number as u64);
-    let b = put_field(out, a, refusal.detail);
-    put_end(out, b)
+    let at = put_text(out, at, b"no");
+    let at = put_field(out, at, u64::from(number));
+    let at = put_field(out, at, detail);
+    put_end(out, at)
 }
 
-pub(crate) fn put_line(out: &mut [u8], at: usize, reply: Reply) -> usize
+pub(crate) fn put_line(out: &mut [u8], at: usize, reply: Result<Report, Refusal>) -> usize
     requires { at + longest ≤ length out.old }
     ensures { Put out.old at (line_of reply) out.new result × (result ≤ at + longest) }
 {
     match reply {
-        Reply::Done(report) => put_report(out, at, report),
-        Reply::No(refusal) => put_refusal(out, at, refusal),
+        Ok(report) => put_report(out, at, report),
+        Err(refusal) => put_refusal(out, at, refusal.number(), refusal.detail()),
     }
 }
 
+// The line of any refusal, of a record too, as `write_line` writes that of a reply.
+// 0 and no Option where there is no room: `refusal_in` is what it promises, as `line_in` of `write_line`.
+pub fn write_refusal(number: u8, detail: u64, out: &mut [u8]) -> usize
+    ensures { (result ≡ length (refusal_in number detail out.old)) × (out.new ≡ over (refusal_in number detail out.old) out.old) }
+{
+    if out.len() < LONGEST_LINE {
+        return 0;
+    }
+    put_refusal(out, 0, number, detail)
+}
+
 // The reply's line at the start of `out`, and how many bytes it has; nothing where a longest line would have no room.
-pub fn write_line(reply: Reply, out: &mut [u8]) -> usize
+pub fn write_line(reply: Result<Report, Refusal>, out: &mut [u8]) -> usize
     ensures { (result ≡ length (line_in reply out.old)) × (out.new ≡ over (line_in reply out.old) out.old) }
 {
     if out.len() < LONGEST_LINE {
