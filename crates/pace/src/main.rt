@@ -6,16 +6,11 @@
 #![tactic(auto)]
 
 ghost use Rattle.std.specs.Prelude.{◌≤◌, ◌<◌};
-ghost use Rattle.turns.specs.State.{ValidCore};
 
-use std::io::Write;
-use turns::{
-    Answer, Change, Core, Description, Holder, LARGEST_TUNNEL, Refusal, Reply, Report, Timer,
-};
+use std::io::{Read, Write};
+use std::marker::Model;
+use turns::{Change, Core, Description, LARGEST_TUNNEL, Refusal, Report};
 use units::{Amount, Moment, Tunnel};
-
-// Stands for no timer; no timer is so late.
-const NEVER: u64 = 18446744073709551615;
 
 // No identifier is so large; it stands for idle too.
 const TOO_LARGE: u32 = LARGEST_TUNNEL + 1;
@@ -25,7 +20,59 @@ const NOBODY: u64 = TOO_LARGE as u64;
 // The period in the runs with gaps, and the gap.
 const GAP: u32 = 1000;
 
+// How many VCPUs were asked for: 1 to 9,999.
 #[derive(Clone, Copy)]
+struct Size(u64);
+
+impl Model for Size {
+    ghost use Rattle.std.specs.Prelude.{ℕ, ◌≤◌};
+
+    ghost Value = { ℕ };
+
+    ghost view = { λ s. s.0 };
+
+    ghost invariant = { λ s. (1 ≤ s.0) × (s.0 ≤ 9999) };
+
+    ghost inverse = { λ n. record { 0 = n } };
+}
+
+// How many returns fall due at once behind a gap.
+#[derive(Clone, Copy, Debug, PartialEq, Eq)]
+enum Due {
+    Two,
+    Four,
+    Eight,
+}
+
+#[derive(Clone, Copy, Debug, PartialEq, Eq)]
+enum Mix {
+    Mixed,
+    Busy,
+    Thirds,
+    Leaving,
+    Gaps(Due),
+    BehindGap(Due),
+}
+
+impl From<u64> for Mix {
+    fn from(digit: u64) -> Self {
+        match digit {
+            0 => Mix::Mixed,
+            1 => Mix::Busy,
+            2 => Mix::Thirds,
+            3 => Mix::Leaving,
+            4 => Mix::Gaps(Due::Two),
+            5 => Mix::Gaps(Due::Four),
+            6 => Mix::Gaps(Due::Eight),
+            7 => Mix::BehindGap(Due::Two),
+            8 => Mix::BehindGap(Due::Four),
+            _ => Mix::BehindGap(Due::Eight),
+        }
+    }
+}
+
+// (As in `records` but for a name: pace stands on turns and units alone.)
+#[derive(Clone, Copy, Debug, PartialEq, Eq)]
 struct Event {
     now: Moment,
     change: Change,
@@ -33,7 +80,8 @@ struct Event {
 
 // What the generator remembers: the time of the last accepted call and the timer; the sums, of times and timers, of the identifiers that
 // ran, of amounts, usable and brought, of refusals' numbers, of their details; and how many calls were refused.
-#[derive(Clone, Copy)]
+// (No Option: no timer is a moment above all here, which is what is summed, and `next` asks for the earlier of two.)
+#[derive(Clone, Copy, Debug, PartialEq, Eq)]
 struct Seen {
     last: Moment,
     timer: Moment,
@@ -50,20 +98,17 @@ fn id_of(k: u64) -> Tunnel {
 }
 
 // All are sporadic, but for the mixes of the three kinds.
-fn kind_in(mix: u64, d: u64) -> u8 {
-    if mix == 2 || mix == 3 {
-        (d / 7 % 3) as u8
-    } else {
-        0
+fn kind_in(mix: Mix, d: u64) -> u8 {
+    match mix {
+        Mix::Thirds | Mix::Leaving => (d / 7 % 3) as u8,
+        _ => 0,
     }
 }
 
 fn described(k: u64, d: u64, kind: u8, capacity: Amount) -> Description {
-    let tunnel = id_of(k);
-    let period = Amount::new((50 + d % 1000) as u32);
     Description {
-        tunnel,
-        period,
+        tunnel: id_of(k),
+        period: Amount::new((50 + d % 1000) as u32),
         capacity,
         priority: (d % 7) as u8,
         kind,
@@ -80,10 +125,10 @@ fn bad_terms(k: u64, d: u64, kind: u8) -> Description {
 
 // So much after the last accepted call, but not past the timer.
 fn next(last: Moment, step: Amount, timer: Moment) -> Moment {
-    let now = last.plus(step);
-    if timer.before(now) { timer } else { now }
+    last.plus(step).min(timer)
 }
 
+// (A line each, here and below: one with a factor would say 1 and 8 at its calls, and no more.)
 fn short(d: u64) -> Amount {
     Amount::new((d / 32 % 16) as u32)
 }
@@ -93,17 +138,12 @@ fn long(d: u64) -> Amount {
 }
 
 fn earlier(t: Moment) -> Moment {
-    let ticks = t.ticks();
-    if ticks == 0 {
-        t
-    } else {
-        Moment::new(ticks - 1)
-    }
+    Moment::new(t.ticks().saturating_sub(1))
 }
 
-fn busy(n: u64, d: u64, last: Moment, timer: Moment) -> Event
-    requires { (1 ≤ n) × (n ≤ 9999) }
-{
+// (The last time, the timer and the number drawn stand apart, here and below: each takes another part of them.)
+fn busy(size: Size, d: u64, last: Moment, timer: Moment) -> Event {
+    let n = size.0;
     let sel = d % 32;
     let now = next(last, short(d), timer);
     let who = id_of(d / 512 % n);
@@ -133,9 +173,8 @@ fn busy(n: u64, d: u64, last: Moment, timer: Moment) -> Event
 }
 
 // A change that row 4, 11, 7, 8 or 6 refuses. Only a card of 32 is full.
-fn wrong_change(sel: u64, n: u64, who: u64, d: u64, kind: u8) -> Change
-    requires { n ≤ 9999 }
-{
+fn wrong_change(sel: u64, size: Size, who: u64, d: u64, kind: u8) -> Change {
+    let n = size.0;
     if sel < 32 {
         let too_large = Tunnel::new(TOO_LARGE);
         return Change::Wake(too_large);
@@ -157,9 +196,8 @@ fn wrong_change(sel: u64, n: u64, who: u64, d: u64, kind: u8) -> Change
 }
 
 // A call that some row refuses; the late one is accepted where the timer is later still.
-fn wrong(sel: u64, n: u64, d: u64, kind: u8, last: Moment, now: Moment) -> Event
-    requires { (1 ≤ n) × (n ≤ 9999) }
-{
+fn wrong(sel: u64, size: Size, d: u64, kind: u8, last: Moment, now: Moment) -> Event {
+    let n = size.0;
     let who = d / 512 % n;
     if sel < 29 {
         let id = id_of(who);
@@ -180,14 +218,13 @@ fn wrong(sel: u64, n: u64, d: u64, kind: u8, last: Moment, now: Moment) -> Event
             change: Change::Tick,
         };
     }
-    let change = wrong_change(sel, n, who, d, kind);
+    let change = wrong_change(sel, size, who, d, kind);
     Event { now, change }
 }
 
 // Nobody leaves: a tick, a wake, a block, or a call that is refused.
-fn mixed(n: u64, d: u64, kind: u8, last: Moment, timer: Moment) -> Event
-    requires { (1 ≤ n) × (n ≤ 9999) }
-{
+fn mixed(size: Size, d: u64, kind: u8, last: Moment, timer: Moment) -> Event {
+    let n = size.0;
     let sel = d % 36;
     let now = next(last, short(d), timer);
     let id = id_of(d / 512 % n);
@@ -209,7 +246,7 @@ fn mixed(n: u64, d: u64, kind: u8, last: Moment, timer: Moment) -> Event
             change: Change::Block(id),
         };
     }
-    wrong(sel, n, d, kind, last, now)
+    wrong(sel, size, d, kind, last, now)
 }
 
 // A tick, a wake or a block.
@@ -226,9 +263,8 @@ fn quiet(sel: u64, id: Tunnel) -> Change {
 // A quarter more tenants than VCPUs were asked for, in a round: once in 8 calls one leaves, and the next call admits the one that left
 // longest ago. The others are of those that are on the card where all of that was accepted. The steps are longer than in the other runs,
 // so that times come.
-fn leaving(k: u64, n: u64, d: u64, kind: u8, last: Moment, timer: Moment) -> Event
-    requires { (1 ≤ n) × (n ≤ 9999) }
-{
+fn leaving(k: u64, size: Size, d: u64, kind: u8, last: Moment, timer: Moment) -> Event {
+    let n = size.0;
     let now = next(last, long(d), timer);
     let tenants = n + n / 4 + 1;
     let turn = k / 8;
@@ -267,10 +303,10 @@ fn patient(k: u64) -> Description {
 }
 
 // In so many calls each VCPU is used twice, as it wakes and as the more urgent one blocks; one that is alone has to wake twice for that.
-fn used_twice(n: u64) -> u64
-    requires { (1 ≤ n) × (n ≤ 9999) }
+fn used_twice(size: Size) -> u64
     ensures { (1 ≤ result) × (result ≤ 19998) }
 {
+    let n = size.0;
     if n == 1 {
         return 4;
     }
@@ -278,25 +314,21 @@ fn used_twice(n: u64) -> u64
 }
 
 // How many calls there are from one gap to the next.
-fn cycle(mix: u64, n: u64) -> u64
-    requires { (1 ≤ n) × (n ≤ 9999) }
+fn cycle(due: Due, size: Size) -> u64
     ensures { (1 ≤ result) × (result ≤ 100000) }
 {
-    if mix == 4 || mix == 7 {
-        return used_twice(n);
+    match due {
+        Due::Two => used_twice(size),
+        Due::Four => 2 * used_twice(size),
+        Due::Eight => 4 * used_twice(size),
     }
-    if mix == 5 || mix == 8 {
-        return 2 * used_twice(n);
-    }
-    4 * used_twice(n)
 }
 
 // Many short uses, then a gap of a period with nobody runnable, so that all that is pending falls due at one call. All block, the most
 // urgent first, and wake, the least urgent first, a tick after each other: each use is a tick, and no two of a VCPU join. (The most urgent
 // one is used half as often as the others.)
-fn gaps(k: u64, n: u64, mix: u64, last: Moment) -> Event
-    requires { (1 ≤ n) × (n ≤ 9999) }
-{
+fn gaps(k: u64, size: Size, due: Due, last: Moment) -> Event {
+    let n = size.0;
     if k < n {
         let new = patient(k);
         return Event {
@@ -314,7 +346,7 @@ fn gaps(k: u64, n: u64, mix: u64, last: Moment) -> Event
         };
     }
     let fresh = id_of(at - n);
-    let rested = (k - n) % cycle(mix, n) == 0;
+    let rested = (k - n) % cycle(due, size) == 0;
     let now = if rested {
         last.plus(Amount::new(GAP))
     } else {
@@ -337,14 +369,17 @@ fn behind_gap(k: u64) -> Event {
     }
 }
 
-fn call(k: u64, n: u64, mix: u64, s: u64, last: Moment, timer: Moment) -> Event
-    requires { (1 ≤ n) × (n ≤ 9999) }
-{
-    if 7 <= mix && n + cycle(mix, n) <= k {
-        return behind_gap(k);
-    }
-    if 4 <= mix {
-        return gaps(k, n, mix, last);
+fn call(k: u64, size: Size, mix: Mix, s: u64, last: Moment, timer: Moment) -> Event {
+    let n = size.0;
+    match mix {
+        Mix::Gaps(due) => return gaps(k, size, due, last),
+        Mix::BehindGap(due) => {
+            if n + cycle(due, size) <= k {
+                return behind_gap(k);
+            }
+            return gaps(k, size, due, last);
+        }
+        _ => {}
     }
     let d = s / 64;
     let kind = kind_in(mix, d);
@@ -362,26 +397,10 @@ fn call(k: u64, n: u64, mix: u64, s: u64, last: Moment, timer: Moment) -> Event
             change: Change::Wake(id),
         };
     }
-    if mix == 0 || mix == 2 {
-        return mixed(n, d, kind, last, timer);
-    }
-    if mix == 3 {
-        return leaving(k, n, d, kind, last, timer);
-    }
-    busy(n, d, last, timer)
-}
-
-fn tunnel_number(run: Holder) -> u64 {
-    match run {
-        Holder::Idle => NOBODY,
-        Holder::Vcpu(id) => id.number() as u64,
-    }
-}
-
-fn timer_moment(timer: Timer) -> Moment {
-    match timer {
-        Timer::Unset => Moment::new(NEVER),
-        Timer::At(m) => m,
+    match mix {
+        Mix::Mixed | Mix::Thirds => mixed(size, d, kind, last, timer),
+        Mix::Leaving => leaving(k, size, d, kind, last, timer),
+        _ => busy(size, d, last, timer),
     }
 }
 
@@ -390,74 +409,36 @@ fn joined(sum: u64, number: u64) -> u64 {
     (sum % 4294967296 * 31 + number % 1099511627776) % 1000000007
 }
 
-fn seen_done(old: Seen, r: Report) -> Seen {
-    let run = r.run;
-    let time = r.time;
-    let usable = r.usable;
-    let brought = r.brought;
-    let until = r.timer;
-    let timer = timer_moment(until);
-    Seen {
-        last: time,
-        timer,
-        times: joined(joined(old.times, time.ticks()), timer.ticks()),
-        tunnels: joined(old.tunnels, tunnel_number(run)),
-        amounts: joined(
-            old.amounts,
-            usable.ticks() as u64 * 31 + brought.ticks() as u64,
-        ),
-        numbers: old.numbers,
-        details: old.details,
-        refused: old.refused,
+impl Seen {
+    fn done(&mut self, r: Report) {
+        // Stands for no timer; no timer is so late.
+        let timer = r.timer.unwrap_or(Moment::new(u64::MAX));
+        let run = r.run.map_or(NOBODY, |id| u64::from(id.number()));
+        let amounts = u64::from(r.usable.ticks()) * 31 + u64::from(r.brought.ticks());
+        self.last = r.time;
+        self.timer = timer;
+        self.times = joined(joined(self.times, r.time.ticks()), timer.ticks());
+        self.tunnels = joined(self.tunnels, run);
+        self.amounts = joined(self.amounts, amounts);
+    }
+
+    fn no(&mut self, x: Refusal) {
+        self.numbers = joined(self.numbers, u64::from(x.number()));
+        self.details = joined(self.details, x.detail());
+        self.refused = self.refused % 1000000000000 + 1;
     }
 }
 
-fn seen_no(old: Seen, x: Refusal) -> Seen {
-    let last = old.last;
-    let timer = old.timer;
-    Seen {
-        last,
-        timer,
-        times: old.times,
-        tunnels: old.tunnels,
-        amounts: old.amounts,
-        numbers: joined(old.numbers, x.number as u64),
-        details: joined(old.details, x.detail),
-        refused: (old.refused % 1000000000000 + 1),
-    }
-}
-
-fn noted(old: Seen, reply: Reply) -> Seen {
-    match reply {
-        Reply::Done(r) => seen_done(old, r),
-        Reply::No(x) => seen_no(old, x),
-    }
-}
-
-fn byte(b: u8) -> u64 {
-    b as u64
-}
-
-fn number(s: &[u8; 15], from: usize, to: usize) -> u64
-    requires { to ≤ 15 }
-{
+fn number(digits: &[u8]) -> u64 {
     let mut x = 0u64;
-    let mut i = from;
-    while i < to {
-        x = (x % 1000000000 * 10 + byte(s[i]) % 16) % 10000000000;
-        i += 1;
+    for &digit in digits {
+        x = (x % 1000000000 * 10 + u64::from(digit % 16)) % 10000000000;
     }
     x
 }
 
-fn least_one(n: u64) -> u64
-    ensures { (1 ≤ result) × (result ≤ 9999) }
-{
-    if n == 0 {
-        1
-    } else {
-        if n < 9999 { n } else { 9999 }
-    }
+fn size_of(n: u64) -> Size {
+    Size(n.max(1).min(9999))
 }
 
 fn draw(s: u64) -> u64
@@ -466,118 +447,80 @@ fn draw(s: u64) -> u64
     (s % 2147483648 * 1103515245 + 12345) % 2147483648
 }
 
-// Some calls: what the last one was answered, what was seen of all, and the last number drawn.
+// Some calls: the core, what was seen of all, and the last number drawn.
 #[derive(Clone, Copy)]
 struct Calls {
-    answer: Answer,
+    core: Core,
     seen: Seen,
     drawn: u64,
 }
 
-fn begun() -> Calls
-    ensures { ValidCore result.answer.core }
-{
-    let core = Core::empty();
-    let refusal = Refusal {
-        number: 0,
-        detail: 0,
-    };
-    let seen = Seen {
-        last: Moment::new(0),
-        timer: Moment::new(NEVER),
-        times: 0,
-        tunnels: 0,
-        amounts: 0,
-        numbers: 0,
-        details: 0,
-        refused: 0,
-    };
+fn begun() -> Calls {
     Calls {
-        answer: Answer {
-            core,
-            reply: Reply::No(refusal),
+        core: Core::empty(),
+        seen: Seen {
+            last: Moment::new(0),
+            timer: Moment::new(u64::MAX),
+            times: 0,
+            tunnels: 0,
+            amounts: 0,
+            numbers: 0,
+            details: 0,
+            refused: 0,
         },
-        seen,
         drawn: 12345,
     }
 }
 
-// The calls from number `from` to `to`.
-fn ran(start: Calls, n: u64, mix: u64, from: u64, to: u64) -> Calls
-    requires le_n { (1 ≤ n) × (n ≤ 9999) }
-    requires valid_core { ValidCore start.answer.core }
-    ensures { ValidCore result.answer.core }
-{
-    let mut answer = start.answer;
-    let mut seen = start.seen;
-    let mut drawn = start.drawn;
-    let mut k = from;
-    while k < to {
-        drawn = draw(drawn);
-        let last = seen.last;
-        let timer = seen.timer;
-        let c = call(k, n, mix, drawn, last, timer);
-        let now = c.now;
-        let change = c.change;
-        answer = answer.core.turn(now, change);
-        let reply = answer.reply;
-        seen = noted(seen, reply);
-        k += 1;
+impl Calls {
+    // The call of this number.
+    fn make(&mut self, k: u64, size: Size, mix: Mix) {
+        self.drawn = draw(self.drawn);
+        let event = call(k, size, mix, self.drawn, self.seen.last, self.seen.timer);
+        match self.core.step(event.now, event.change) {
+            Ok(report) => self.seen.done(report),
+            Err(refusal) => self.seen.no(refusal),
+        }
     }
-    Calls {
-        answer,
-        seen,
-        drawn,
+
+    // The call of this number on the card as it stands: the card stays, and what is seen is kept.
+    fn make_again(&mut self, k: u64, size: Size, mix: Mix) {
+        let mut once = *self;
+        once.make(k, size, mix);
+        self.seen = once.seen;
     }
 }
 
-// The calls from number `from` to `to`, each on the card as it stands in `kept`.
-fn again(kept: Calls, n: u64, mix: u64, from: u64, to: u64) -> Seen
-    requires le_n { (1 ≤ n) × (n ≤ 9999) }
-    requires valid_core { ValidCore kept.answer.core }
-{
-    let mut start = kept;
-    let mut k = from;
-    while k < to {
-        let one = ran(start, n, mix, k, k + 1);
-        let seen = one.seen;
-        start.seen = seen;
-        k += 1;
+fn paced(size: Size, mix: Mix, calls: u64) -> Seen {
+    let mut all = begun();
+    let gap = match mix {
+        Mix::BehindGap(due) => size.0 + cycle(due, size),
+        _ => calls,
+    };
+    for k in 0..calls {
+        if k < gap {
+            all.make(k, size, mix);
+        } else {
+            all.make_again(k, size, mix);
+        }
     }
-    start.seen
-}
-
-fn paced(n: u64, mix: u64, calls: u64) -> Seen
-    requires { (1 ≤ n) × (n ≤ 9999) }
-{
-    let start = begun();
-    let gap = n + cycle(mix, n);
-    if mix < 7 || calls < gap {
-        let all = ran(start, n, mix, 0, calls);
-        return all.seen;
-    }
-    let kept = ran(start, n, mix, 0, gap);
-    again(kept, n, mix, gap, calls)
-}
-
-fn put<W: Write>(output: &mut W, sum: u64) {
-    reads::write_number(output, sum);
-    reads::write_all(output, b" ");
+    all.seen
 }
 
 fn main(rt: HostRuntime) {
-    let output = &mut rt.stdout();
     let mut input = [b'0'; 15];
-    reads::read_part(&mut rt.stdin(), &mut input);
-    let n = least_one(number(&input, 0, 4));
-    let mix = number(&input, 4, 5);
-    let calls = number(&input, 5, 15);
-    let had = paced(n, mix, calls);
-    put(output, had.times);
-    put(output, had.tunnels);
-    put(output, had.amounts);
-    put(output, had.numbers);
-    put(output, had.details);
-    reads::write_number(output, had.refused);
-    reads::write_all(output, b"\n");
+    let _ = rt.stdin().read(&mut input);
+    let size = size_of(number(&input[0..4]));
+    let mix = Mix::from(number(&input[4..5]));
+    let had = paced(size, mix, number(&input[5..15]));
+    let _ = writeln!(
+        rt.stdout(),
+        "{} {} {} {} {} {}",
+        had.times,
+        had.tunnels,
+        had.amounts,
+        had.numbers,
+        had.details,
+        had.refused
+    );
 }

@@ -4,250 +4,106 @@
 #![tactic(auto)]
 
 ghost use Rattle.std.specs.Prelude.{◌≤◌, length};
-ghost use Rattle.turns.specs.State.{ValidCore};
 
-use reads::Standing;
-use std::io::{Read, Write};
-use turns::{Core, Found, Refusal};
+use reads::End;
+use records::BadRecord;
+use std::io::{self, Read, Write};
+use turns::Core;
 use units::Tunnel;
 
-// The core, the offset of the first byte that waits for the rest of its record, how many wait, how the reading stands and, where it is
-// refused, with which refusal.
+const BUFFER: usize = 65536;
+
+// What became of a part: how many bytes of records were answered, and how the input was refused, if it was.
 #[derive(Clone, Copy)]
-struct Round {
-    core: Core,
-    offset: u64,
-    held: usize,
-    standing: Standing,
-    refusal: Refusal,
+struct Part {
+    used: usize,
+    refused: Option<BadRecord>,
 }
 
-// The offset behind `used` bytes, held to the largest.
-fn behind(offset: u64, used: usize) -> u64 {
-    let more = used as u64;
-    if u64::MAX - offset < more {
-        return u64::MAX;
-    }
-    offset + more
-}
-
-// Serves the records before `end`, in as many goes as the room for their lines asks for; nobody reads the lines.
-fn served(core: Core, offset: u64, input: &[u8], end: usize, last: bool) -> Round
-    requires { ValidCore core × (end ≤ length input.now) }
-    ensures { ValidCore result.core × (result.held ≤ end) }
+// Serves the records of the part, in as many goes as the room for their lines asks for; nobody reads the lines.
+fn serve(core: &mut Core, part: &[u8], offset: u64, last: bool) -> Part
+    ensures { result.used ≤ length part.now }
 {
-    let mut out = io::large_buffer();
-    let mut core = core;
+    let mut out = [0u8; BUFFER];
     let mut used = 0;
     loop {
-        let s = lines::serve(
-            core,
-            &input[used..end],
-            behind(offset, used),
-            last,
-            &mut out,
-        );
-        let refusal = s.refusal;
-        core = s.core;
-        used += s.used;
-        if s.stopped || s.used == 0 {
-            let offset = behind(offset, used);
-            let held = end - used;
-            return Round {
-                core,
-                offset,
-                held,
-                standing: reads::standing_of(true, s.stopped, last, offset),
-                refusal,
+        let begins = offset.saturating_add(used as u64);
+        let served = lines::serve(core, &part[used..], begins, last, &mut out);
+        used += served.used;
+        if served.refused.is_some() || served.used == 0 {
+            return Part {
+                used,
+                refused: served.refused,
             };
         }
     }
 }
 
-// Serves what a read left behind the bytes that waited, where it answered `got`.
-fn one_round(core: Core, offset: u64, input: &mut [u8], held: usize, got: isize) -> Round
-    requires { ValidCore core × (held ≤ length input.old) }
-    ensures { ValidCore result.core × (result.held ≤ length input.old) }
-{
-    if got < 0 {
-        return Round {
-            core,
-            offset,
-            held,
-            standing: Standing::ReadFailed,
-            refusal: Refusal {
-                number: 0,
-                detail: 0,
-            },
-        };
+// Reads and serves until there is a reason to end: how reading was refused, if it was. A proved loop has to end, and nothing says that the
+// input does, so the rounds are counted.
+// Not the loop of `reads`: a machine has laws to prove, and this program promises nothing of its run. One buffer, and how much of it waits: no heap.
+fn run<R: Read>(from: &mut R, core: &mut Core) -> io::Result<Option<BadRecord>> {
+    let mut input = [0u8; BUFFER];
+    let mut offset: u64 = 0;
+    let mut held = 0;
+    for _round in 0..u64::MAX {
+        let read = from.read(&mut input[held..])?;
+        let end = held + read;
+        let last = read == 0;
+        let part = serve(core, &input[..end], offset, last);
+        offset = offset.saturating_add(part.used as u64);
+        let refused = part.refused.map(|_| End::Refused);
+        if reads::ends_by(refused, last, offset).is_some() {
+            return Ok(part.refused);
+        }
+        input.copy_within(part.used..end, 0);
+        held = end - part.used;
     }
-    let n = io::count(got, &input[held..]);
-    let end = held + n;
-    let r = served(core, offset, input, end, n == 0);
-    let from = end - r.held;
-    reads::move_rest(input, from, end);
-    r
-}
-
-// Reads once behind the bytes that wait.
-fn read_behind<R: Read>(from: &mut R, input: &mut [u8], held: usize) -> isize
-    requires { held ≤ length input.old }
-{
-    let part = &mut input[held..];
-    reads::read_part(from, part)
-}
-
-// A proved loop has to end, and nothing says that the input does. So the loop counts its rounds down from a number that no run uses up.
-fn run<R: Read>(from: &mut R) -> Round
-    ensures { ValidCore result.core }
-{
-    let mut input = io::large_buffer();
-    let mut r = Round {
-        core: Core::empty(),
-        offset: 0,
-        held: 0,
-        standing: Standing::GoesOn,
-        refusal: Refusal {
-            number: 0,
-            detail: 0,
-        },
-    };
-    let mut rounds = u64::MAX;
-    while rounds > 0 {
-        let held = r.held;
-        let got = read_behind(from, &mut input, held);
-        r = one_round(r.core, r.offset, &mut input, held, got);
-        let standing = r.standing;
-        let Standing::GoesOn = standing else {
-            return r;
-        };
-        rounds -= 1;
-    }
-    r
-}
-
-fn is_said<W: Write>(output: &mut W, word: &[u8], n: u64) -> bool {
-    let ok = reads::write_all(output, word);
-    if !ok {
-        return false;
-    }
-    reads::write_number(output, n)
-}
-
-// The totals beside the tenants, the time first; and how many tenants follow, so that a reader sees where the rest was cut off.
-fn is_headed<W: Write>(output: &mut W, core: Core) -> bool
-    requires { ValidCore core }
-{
-    let s = core.status();
-    let time = s.time;
-    let idle = s.idle;
-    let removed = s.removed;
-    if !is_said(output, b"time ", time.ticks()) {
-        return false;
-    }
-    if !is_said(output, b"\nidle ", idle.ticks()) {
-        return false;
-    }
-    if !is_said(output, b"\nremoved ", removed.ticks()) {
-        return false;
-    }
-    if !is_said(output, b"\ntenants ", s.vcpus as u64) {
-        return false;
-    }
-    reads::write_all(output, b"\n")
+    Ok(None)
 }
 
 // A tenant's line.
-fn is_listed<W: Write>(output: &mut W, core: Core, id: Tunnel) -> bool
-    requires { ValidCore core }
-{
-    let l = core.look(id);
-    let v = l.vcpu;
-    let held = v.held;
-    let pending = v.pending;
-    let usable = v.usable;
-    if !is_said(output, b"tenant ", id.number() as u64) {
-        return false;
-    }
-    if !is_said(output, b" held ", held.ticks()) {
-        return false;
-    }
-    if !is_said(output, b" pending ", pending.ticks() as u64) {
-        return false;
-    }
-    if !is_said(output, b" usable ", usable.ticks() as u64) {
-        return false;
-    }
-    reads::write_all(output, b"\n")
+fn list<W: Write>(output: &mut W, core: &Core, id: Tunnel) -> io::Result<()> {
+    let v = core.look(id).vcpu;
+    writeln!(
+        output,
+        "tenant {} held {} pending {} usable {}",
+        id.number(),
+        v.held.ticks(),
+        v.pending.ticks(),
+        v.usable.ticks()
+    )
 }
 
-// All of them, in rising order. There are never more than 32.
-fn are_listed<W: Write>(output: &mut W, core: Core) -> bool
-    requires { ValidCore core }
-{
+// The totals beside the tenants, the time first, and how many tenants follow, so that a reader sees where the rest was cut off; then all of
+// them, in rising order; and what ended the reading, as `card` writes it.
+fn tell<W: Write>(output: &mut W, core: &Core, refused: Option<BadRecord>) -> io::Result<()> {
+    let status = core.status();
+    writeln!(output, "time {}", status.time.ticks())?;
+    writeln!(output, "idle {}", status.idle.ticks())?;
+    writeln!(output, "removed {}", status.removed.ticks())?;
+    writeln!(output, "tenants {}", status.vcpus)?;
     let mut low = Tunnel::new(0);
-    let mut left: usize = 32;
-    while 0 < left {
-        let found = core.first_from(low);
-        let Found::Tenant(id) = found else {
-            return true;
+    for _tenant in 0..status.vcpus {
+        let Some(id) = core.first_from(low) else {
+            break;
         };
-        if !is_listed(output, core, id) {
-            return false;
-        }
-        low = after(id);
-        left -= 1;
+        list(output, core, id)?;
+        low = Tunnel::new(id.number().saturating_add(1));
     }
-    true
-}
-
-fn after(id: Tunnel) -> Tunnel {
-    let n = id.number();
-    if n == u32::MAX {
-        return id;
+    if let Some(bad) = refused {
+        writeln!(output, "no {} {}", bad.number(), bad.detail())?;
     }
-    Tunnel::new(n + 1)
-}
-
-// What ended the reading, as `card` writes it.
-fn is_refused<W: Write>(output: &mut W, refusal: Refusal) -> bool {
-    if !is_said(output, b"no ", refusal.number as u64) {
-        return false;
-    }
-    if !is_said(output, b" ", refusal.detail) {
-        return false;
-    }
-    reads::write_all(output, b"\n")
-}
-
-fn is_told<W: Write>(output: &mut W, r: Round) -> bool
-    requires { ValidCore r.core }
-{
-    let core = r.core;
-    if !is_headed(output, core) {
-        return false;
-    }
-    if !are_listed(output, core) {
-        return false;
-    }
-    let standing = r.standing;
-    let Standing::Refused = standing else {
-        return true;
-    };
-    is_refused(output, r.refusal)
+    Ok(())
 }
 
 fn main(rt: HostRuntime) {
-    let r = run(&mut rt.stdin());
-    let standing = r.standing;
-    match standing {
-        Standing::ReadFailed => {
-            reads::write_all(&mut rt.stderr(), b"usage: a read failed\n");
-        }
-        _ => {
-            if !is_told(&mut rt.stdout(), r) {
-                reads::write_all(&mut rt.stderr(), b"usage: a write failed\n");
-            }
-        }
+    let mut core = Core::empty();
+    let Ok(refused) = run(&mut rt.stdin(), &mut core) else {
+        let _ = writeln!(rt.stderr(), "usage: a read failed");
+        return;
+    };
+    if tell(&mut rt.stdout(), &core, refused).is_err() {
+        let _ = writeln!(rt.stderr(), "usage: a write failed");
     }
 }
