@@ -5,21 +5,26 @@ use mathlib.Core.Path.{◌≡◌, refl, ap, sym, ◌∙◌, subst}
 use mathlib.Core.Logic.{◌⊎◌, inl, inr}
 use mathlib.Core.List.{List, [], ◌∷◌, ◌++◌}
 use mathlib.Core.Option.{Option, none, some}
-use Rattle.std.specs.Prelude.{Result}
+use Rattle.std.specs.Prelude.{Result, Ok, Err}
+use Rattle.std.specs.Result.{MatchResult, IsErrAnd}
+use Rattle.std.proofs.lemmas.Result.{err_from_is_err_and}
 use native.Mathlib.Omega.{arith}
 use Rattle.rules.specs.Lists.{All}
-use Rattle.rules.specs.Refuse.{Refusal as Row}
+use Rattle.rules.specs.Refuse.{Refusal as RefusalRule}
 use Rattle.rules.specs.Turn.{Report as ReportRule}
 use Rattle.rules.specs.Turn.{Reply as Said}
 use Rattle.rules.specs.Turn.{ok, refused}
 use Rattle.turns.specs.declared.Report.{Report}
 use Rattle.turns.specs.declared.Refusal.{Refusal}
-use Rattle.turns.specs.Calls.{paper_reply, reply_said}
+use Rattle.turns.specs.Calls.{paper_reply, report_said, reply_said}
 use Rattle.turns.proofs.Paper.{said-paper}
 use Rattle.rules.proofs.Lists.{all_imp}
 use Rattle.text.specs.Text.{figures, decimal, number, fields}
 use Rattle.text.proofs.Figures.{one-or-more, figures-one, figures-step, decimal-says}
-use Rattle.lines.specs.Text.{dash, or_dash, line_said, line_of}
+use Rattle.records.specs.declared.answers.BadRecord.{BadRecord}
+use Rattle.records.specs.Answer.{paper_bad}
+use Rattle.lines.specs.declared.line.Row.{Row}
+use Rattle.lines.specs.Text.{dash, or_dash, refusal_text, line_said, line_of, row_of, record_row, row_said}
 
 -- no space and no newline in it
 abbrev Plain : List ℕ → Type 0
@@ -95,7 +100,7 @@ same-report : {a a' : ℕ} {h h' : Option ℕ} {u u' : ℕ} {t t' : Option ℕ} 
 same-report e f g k l = rw (e, f, g, k, l)
 
 same-refusal : {a a' b b' : ℕ} → a ≡ a' → b ≡ b'
-    → ◌≡◌ {A = Row} (record { number = a; detail = b }) (record { number = a'; detail = b' })
+    → ◌≡◌ {A = RefusalRule} (record { number = a; detail = b }) (record { number = a'; detail = b' })
 same-refusal e f = rw (e, f)
 
 -- a line shows the numbers of its reply and no others, those of a record that is not read among them
@@ -131,3 +136,36 @@ said-shows (ok r) (ok q) p k e =
 -- a line shows its reply and no other
 pub line-shows : (r q : Result Report Refusal) → Fits (paper_reply r) → Fits (paper_reply q) → line_of r ≡ line_of q → r ≡ q
 line-shows r q p k e = sym (said-paper r) ∙ ap reply_said (said-shows (paper_reply r) (paper_reply q) p k e) ∙ said-paper q
+
+-- a call's reply, its refusal made a row
+abbrev pub rowed : Result Report Refusal → Result Report Row
+rowed (Ok r) = Ok r
+rowed (Err x) = Err (row_of x)
+
+-- .. which is what `map_err(Row::from)` makes of it: `Row::from` gives `row_of`
+pub rowed-is : (r : Result Report Refusal) (m : Result Report Row)
+    → MatchResult r (λ x. m ≡ Ok x) (λ x. IsErrAnd m (λ row. row ≡ row_of x)) → m ≡ rowed r
+rowed-is (Ok r) m h = h
+rowed-is (Err x) m h = let p = err_from_is_err_and m h in p.1 ∙ ap Err p.2
+
+-- its line is that of the reply
+pub rowed-line : (r : Result Report Refusal) → line_said (row_said (rowed r)) ≡ line_of r
+rowed-line (Ok r) = refl
+rowed-line (Err x) = refl
+
+-- the line of a record's refusal, made a row, is the one that `serve` writes
+pub record-line : (b : BadRecord) → line_said (row_said (Err (record_row b))) ≡ refusal_text (paper_bad b)
+record-line b = refl
+
+-- the other way: the reply that has these numbers and values
+abbrev row_back : Said → Result Report Row
+row_back (ok r) = Ok (report_said r)
+row_back (refused r) = Err (record { number = r.number; detail = r.detail })
+
+rows-again : (r : Result Report Row) → row_back (row_said r) ≡ r
+rows-again (Ok r) = ap rowed (said-paper (Ok r))
+rows-again (Err x) = refl
+
+-- a line of `write_line` shows its reply and no other, whatever the number and the detail of a refusal
+pub row-shows : (r q : Result Report Row) → Fits (row_said r) → Fits (row_said q) → line_said (row_said r) ≡ line_said (row_said q) → r ≡ q
+row-shows r q p k e = sym (rows-again r) ∙ ap row_back (said-shows (row_said r) (row_said q) p k e) ∙ rows-again q

@@ -4,13 +4,44 @@ ghost use Rattle.std.specs.Prelude.{◌+◌, ◌≤◌, ◌≡◌, ◌∷◌, le
 ghost use Rattle.text.specs.Text.{over, Put};
 ghost use Rattle.turns.specs.Written.{number_in, moment_in};
 ghost use Rattle.lines.specs.Text.{dashed, or_dash, refusal_text, refusal_in, line_of, line_in, longest};
+ghost use Rattle.lines.specs.Text.{row_of, record_row};
 
+use records::BadRecord;
 use text::{put_end, put_field, put_text};
 use turns::{Refusal, Report};
 use units::{Moment, Tunnel};
 
 // No line has more bytes: two letters, five numbers of at most 20 digits, each behind a space, and a newline.
 pub const LONGEST_LINE: usize = 108;
+
+// A refusal as its line tells it: of a call, of a record, or any other.
+#[derive(Clone, Copy, Debug, PartialEq, Eq)]
+pub struct Row {
+    pub number: u8,
+    pub detail: u64,
+}
+
+impl From<Refusal> for Row {
+    ghost from_gives = { λ refusal row. row ≡ row_of refusal };
+
+    fn from(refusal: Refusal) -> Row {
+        Row {
+            number: refusal.number(),
+            detail: refusal.detail(),
+        }
+    }
+}
+
+impl From<BadRecord> for Row {
+    ghost from_gives = { λ bad row. row ≡ record_row bad };
+
+    fn from(bad: BadRecord) -> Row {
+        Row {
+            number: bad.number(),
+            detail: bad.detail(),
+        }
+    }
+}
 
 // RUN and TIMER: a space and the number, or a space and `-` where there is none.
 fn put_or_dash(out: &mut [u8], at: usize, number: Option<u64>) -> usize
@@ -69,7 +100,7 @@ pub(crate) fn put_line(out: &mut [u8], at: usize, reply: Result<Report, Refusal>
     }
 }
 
-// The line of any refusal, of a record too, as `write_line` writes that of a reply.
+// The line of any refusal by its numbers alone: what `write_line` writes of such a row.
 // 0 and no Option where there is no room: `refusal_in` is what it promises, as `line_in` of `write_line`.
 pub fn write_refusal(number: u8, detail: u64, out: &mut [u8]) -> usize
     ensures { (result ≡ length (refusal_in number detail out.old)) × (out.new ≡ over (refusal_in number detail out.old) out.old) }
@@ -81,11 +112,16 @@ pub fn write_refusal(number: u8, detail: u64, out: &mut [u8]) -> usize
 }
 
 // The reply's line at the start of `out`, and how many bytes it has; nothing where a longest line would have no room.
-pub fn write_line(reply: Result<Report, Refusal>, out: &mut [u8]) -> usize
+// A host that hands on replies of its own has refusals of other numbers too, so the refusal is a row: a call's is made one by
+// `map_err(Row::from)`.
+pub fn write_line(reply: Result<Report, Row>, out: &mut [u8]) -> usize
     ensures { (result ≡ length (line_in reply out.old)) × (out.new ≡ over (line_in reply out.old) out.old) }
 {
     if out.len() < LONGEST_LINE {
         return 0;
     }
-    put_line(out, 0, reply)
+    match reply {
+        Ok(report) => put_report(out, 0, report),
+        Err(row) => put_refusal(out, 0, row.number, row.detail),
+    }
 }

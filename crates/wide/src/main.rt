@@ -2,7 +2,7 @@
 // It writes the line of each reply; `stdout` has the lines that documents 01 and 02 give.
 #![tactic(auto)]
 
-use lines::LONGEST_LINE;
+use lines::{LONGEST_LINE, Row};
 use std::io::Write;
 use turns::{Change, Core, Description, LARGEST_TUNNEL};
 use units::{Amount, Moment, Tunnel};
@@ -17,7 +17,8 @@ const ALL_BITS: u32 = u32::MAX;
 // A call, and the line of its reply; a line that cannot be written is let go.
 fn call<W: Write>(output: &mut W, core: &mut Core, now: u64, change: Change) {
     let mut out = [0u8; LONGEST_LINE];
-    let written = lines::write_line(core.step(Moment::new(now), change), &mut out);
+    let reply = core.step(Moment::new(now), change).map_err(Row::from);
+    let written = lines::write_line(reply, &mut out);
     let _ = reads::write_all(output, &out[..written]);
 }
 

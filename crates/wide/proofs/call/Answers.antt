@@ -16,8 +16,8 @@ abbrev room : List ℕ
 room = replicate longest 0
 
 pub slice_bounds-out-end : goal.slice_bounds-out-end
-slice_bounds-out-end g c = filled (line_in c.step.result room) room c.write_line-written.ensures
+slice_bounds-out-end g c = filled (line_in c.map_err-reply.result room) room c.write_line-written.ensures
 
 pub slice_bounds-write_all-end : goal.slice_bounds-write_all-end
 slice_bounds-write_all-end g c =
-    sym (length-take-le _ _ (filled (line_in c.step.result room) room c.write_line-written.ensures))
+    sym (length-take-le _ _ (filled (line_in c.map_err-reply.result room) room c.write_line-written.ensures))
