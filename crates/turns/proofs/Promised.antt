@@ -40,9 +40,10 @@ use Rattle.turns.specs.declared.Change.TheVariants.{Remove}
 use Rattle.turns.specs.declared.Refusal.{Refusal}
 use Rattle.turns.specs.declared.Report.{Report}
 use Rattle.turns.specs.declared.Answer.{Answer}
-use Rattle.turns.specs.Written.{core_of}
+use Rattle.turns.specs.declared.Core.TheInside.{Inside}
+use Rattle.turns.specs.Written.{card, core_of}
 use Rattle.turns.specs.Calls.{asked, call_of, number_of, detail_of, paper_refusal, paper_reply, reply_said, report_said, turned}
-use Rattle.turns.specs.State.{Asking, made, calls_of}
+use Rattle.turns.specs.State.{Asking, made, calls_of, IsCore}
 use Rattle.turns.specs.Promised.{Called, none_yet, one_more, exchanges, Next, Promised}
 use Rattle.turns.proofs.Paper.{paper-said, said-paper, report-paper, whole-answer}
 use Rattle.turns.proofs.Made.{core-written, made-shown, made_so}
@@ -105,6 +106,9 @@ module _ (calls : List Asking) (now : Moment) (change : Change) where
   none_after : NoRow old call → NoRow (after (calls_of calls)) call
   none_after n = subst (λ (k : Card). NoRow k call) (made_so calls) n
 
+  back : (x : Refusal) → answer.reply ≡ Err x → answer.core ≡ old
+  back x e = shown ∙ table.hands_back (paper_refusal x) (sym paper ∙ ap paper_reply e)
+
   next : Next (made calls) now change answer
   next =
       record {
@@ -112,7 +116,9 @@ module _ (calls : List Asking) (now : Moment) (change : Change) where
           λ e. (table.refuses (number_of x) (detail_of x)).0 (sym paper ∙ ap paper_reply e),
           λ f. replied (Err x) ((table.refuses (number_of x) (detail_of x)).1 f),
         );
-        hands_back = λ x e. shown ∙ table.hands_back (paper_refusal x) (sym paper ∙ ap paper_reply e);
+        hands_back = back;
+        hands_back_fields = λ x e before left v w p q.
+            w.written ∙ ap core_of (q ∙ back x e ∙ sym p) ∙ sym v.written;
         accepts = (
           λ r. no_row r.0 r.1,
           λ n. (
@@ -124,6 +130,7 @@ module _ (calls : List Asking) (now : Moment) (change : Change) where
             let steps : answer.core ≡ accepted old call = shown ∙ card-accepted old call (reported r e) in
             record {
               five_steps = steps;
+              five_steps_fields = λ left w q. w.written ∙ ap core_of (q ∙ steps);
               reports =
                   paper ∙ told_so r e ∙ ap (λ (k : Card). ok (report (total (told_by old call.now)) k)) (sym steps)
                   ∙ ap (λ (n : ℕ). ok (report n answer.core)) (sym (brought_so r e));
@@ -193,3 +200,8 @@ called _ _ _ (one_more calls replies c now change a before p q) =
   where
     cons : (r r' : Said) (l l' : List Said) → r ≡ r' → l ≡ l' → r ∷ l ≡ r' ∷ l'
     cons r r' l l' p q = rw (p, q)
+
+-- .. and the fields of the core that it holds are that card written
+pub called-fields : (calls : List Asking) (replies : List (Result Report Refusal)) (c : Card) → Called calls replies c
+    → (d : Inside) → IsCore d → card d ≡ c → d ≡ core_of (made calls)
+called-fields calls replies c h d v e = v.written ∙ ap core_of (e ∙ (called calls replies c h).0)

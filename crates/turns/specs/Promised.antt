@@ -1,6 +1,6 @@
 -- What a host may rely on, whatever calls it made: the card that its core shows, the history that its calls and the replies tell, and
--- the answer to one call more. A core stands here as a contract sees it, by its card. Proved of every list of calls, and of every host
--- that makes them (Called), in proofs/Promised.
+-- the answer to one call more. A core stands here as a contract sees it, by its card; where fields are named, for every core that shows
+-- that card. Proved of every list of calls, and of every host that makes them (Called), in proofs/Promised.
 -- Assumes nothing.
 use Rattle.std.specs.Prelude.{◌≡◌, List, [], ◌∷◌, ◌↔◌, Result, Ok, Err}
 use Rattle.units.specs.declared.Moment.{Moment}
@@ -48,6 +48,8 @@ exchanges (a ∷ calls) =
 -- an accepted call: steps 1 to 5, and the report `r` of the card after them, and of what step 2 brought
 pub record Accepted (c : Card) (now : Moment) (change : Change) (a : Answer) (r : Report) : Type 0 where
   pub five_steps : a.core ≡ accepted c (call_of now change)
+  -- and the fields left are that card written
+  pub five_steps_fields : (left : Inside) → IsCore left → card left ≡ a.core → left ≡ core_of (accepted c (call_of now change))
   pub reports : paper_reply a.reply ≡ ok (reportOf r.brought.0 a.core)
   pub brings : Brings c (call_of now change) r.brought.0
   pub at-now : a.core.last ≡ now.0
@@ -64,6 +66,9 @@ pub record Next (c : Card) (now : Moment) (change : Change) (a : Answer) : Type 
   -- "Given exactly when", with which row and detail; "the state handed back equals the state handed in"
   pub refuses : (x : Refusal) → a.reply ≡ Err x ↔ First c (call_of now change) (number_of x) (detail_of x)
   pub hands_back : (x : Refusal) → a.reply ≡ Err x → a.core ≡ c
+  -- .. in all its fields, those of vacant places included
+  pub hands_back_fields : (x : Refusal) → a.reply ≡ Err x → (before left : Inside) → IsCore before → IsCore left
+      → card before ≡ c → card left ≡ a.core → left ≡ before
   -- accepted exactly when no row applies
   pub accepts : ((r : Report) × (a.reply ≡ Ok r)) ↔ NoRow c (call_of now change)
   pub then : (r : Report) → a.reply ≡ Ok r → Accepted c now change a r
