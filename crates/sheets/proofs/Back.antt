@@ -12,11 +12,12 @@ use Rattle.std.specs.Prelude.{Result, Ok, Err}
 use Rattle.text.specs.Text.{over}
 use Rattle.model.specs.Asked.{Work}
 use Rattle.model.specs.Reply.{gives, refuses}
-use Rattle.model.specs.Rows.{row}
+use Rattle.model.specs.Form.{Form}
+use Rattle.model.specs.Rows.{row, tasks_rows, check_reply, least_reply, best_reply}
 use Rattle.sheets.specs.declared.answers.BadLine.{BadLine}
 use Rattle.sheets.specs.declared.sheet.Sheet.TheInside.{Inside}
 use Rattle.sheets.specs.Kept.{work_of, ValidSheet}
-use Rattle.sheets.specs.Sheet.{sheet, bad, read_of}
+use Rattle.sheets.specs.Sheet.{sheet, bad, no_tasks, read_of}
 use Rattle.sheets.specs.Meaning.{Holds, FirstBad}
 use Rattle.sheets.specs.Paper.{text_of, line_number, line_detail, paper_read, write_reply, written_in}
 use Rattle.sheets.proofs.Meaning.{same_bytes, same-sheet, reads-bad}
@@ -76,3 +77,24 @@ told_37 bytes r k e f = go r (e ∙ (reads-bad bytes k).1 f)
     go : (l : Result Work BadLine) → paper_read l ≡ bad k → (q : BadLine) × (l ≡ Err q) × (line_number q ≡ 37) × (line_detail q ≡ k)
     go (Ok w) h = cc
     go (Err q) h = (q, refl, refl, cc)
+
+-- who goes on with the sheet of no tasks, where one was refused, is told 30 by each question
+pub none_told_30 : (form : Form) (p b : ℕ)
+    → (check_reply form no_tasks.periods no_tasks.costs p b ≡ refuses 30 0)
+    × (least_reply form no_tasks.periods no_tasks.costs p ≡ refuses 30 0)
+    × (best_reply form no_tasks.periods no_tasks.costs p ≡ refuses 30 0)
+unfolding check_reply least_reply best_reply tasks_rows
+none_told_30 form p b = (refl, refl, refl)
+
+-- what is gone on with by who does not look: the sheet that was read, or, where it was refused, that of no tasks
+abbrev pub gone_on : Result Work BadLine → Work
+gone_on (Ok w) = w
+gone_on (Err q) = no_tasks
+
+-- of a refused reading that is told 30
+pub refused_told_30 : (bytes : List ℕ) (r : Result Work BadLine) (k : ℕ) → paper_read r ≡ read_of bytes → FirstBad bytes k
+    → (form : Form) (p b : ℕ)
+    → (check_reply form (gone_on r).periods (gone_on r).costs p b ≡ refuses 30 0)
+    × (least_reply form (gone_on r).periods (gone_on r).costs p ≡ refuses 30 0)
+    × (best_reply form (gone_on r).periods (gone_on r).costs p ≡ refuses 30 0)
+refused_told_30 bytes r k e f form p b = rw ((told_37 bytes r k e f).1) (none_told_30 form p b)

@@ -19,6 +19,8 @@ use Rattle.sheets.proofs.answers.NoRoom.number.Kinds as room_number
 use Rattle.sheets.proofs.answers.NoRoom.number.Reads as room-number-promise
 use Rattle.sheets.proofs.answers.NoRoom.detail.Kinds as room_detail
 use Rattle.sheets.proofs.answers.NoRoom.detail.Reads as room-detail-promise
+use Rattle.sheets.proofs.sheet.Sheet.empty.Kinds as empty
+use Rattle.sheets.proofs.sheet.Sheet.empty.Reads as empty-promise
 use Rattle.sheets.proofs.sheet.Sheet.read.Kinds as read
 use Rattle.sheets.proofs.sheet.Sheet.read.Reads as read-promise
 use Rattle.sheets.proofs.sheet.Sheet.count.Kinds as count
@@ -66,6 +68,9 @@ room-number-one κs args a b x y p q = p ∙ sym q
 
 pub room-detail-one : OneReply 0 room_detail.ps room_detail.r room-detail-promise.Post
 room-detail-one κs args a b x y p q = p ∙ sym q
+
+pub empty-one : OneReply 0 empty.ps empty.r empty-promise.Post
+empty-one κs args a b x y p q = p ∙ sym q
 
 pub read_one : OneReply 1 read.ps read.r read-promise.Post
 read_one κs args a b x y p q = same-reading a b (p ∙ sym q)

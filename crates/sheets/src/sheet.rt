@@ -20,7 +20,7 @@ const MOST_LINES: usize = 16;
 // 16 lines of two numbers of four digits, a space and a newline each.
 const MOST_BYTES: usize = 160;
 
-// The tasks that were read: the first `count` of both arrays, and zeros behind them. Reading alone makes one.
+// The tasks that were read: the first `count` of both arrays, and zeros behind them. Reading alone makes one, and `empty`, which is what reading makes of no bytes.
 // Two arrays, since the functions of `shares` take two slices (row 30 speaks of lists of other lengths); a count
 // beside them, since there is no heap.
 #[derive(Clone, Copy)]
@@ -47,8 +47,8 @@ impl Model for Sheet {
 }
 
 impl Sheet {
-    // A sheet of no lines.
-    fn empty() -> Self
+    // A sheet of no lines: what stands for one that is refused, so that who does not look at the refusal is told 30.
+    pub fn empty() -> Self
         ensures { result ≡ no_tasks }
     {
         Sheet {
