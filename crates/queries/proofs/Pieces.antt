@@ -102,7 +102,7 @@ module _ (b : ℕ) (t : List ℕ) (o : Option ℕ) (e : o ≡ position (λ x. eq
           → (n < length t) × (take n t ≡ until b t) × (behind b t ≡ pieces b (drop (n + 1) t))
       go true h q =
           let i : m ≡ n = ap place q in
-          let l : length (until b t) ≡ n = index_until b t ∙ i in
+          let l : length (until b t) ≡ n = sym (found b t o e) ∙ ap (λ (p : Option ℕ). unwrap_or p (length t)) s in
           let low = ltb-true m (length t) h in (
             omega arith,
             ap (λ (k : ℕ). take k t) (sym l) ∙ until-take b t,
@@ -116,7 +116,7 @@ module _ (b : ℕ) (t : List ℕ) (o : Option ℕ) (e : o ≡ position (λ x. eq
       go : (c : Bool) → ltb m (length t) ≡ c → cond c (Some m) None ≡ None → (t ≡ until b t) × (behind b t ≡ [])
       go true h q = let z : ◌≡◌ {A = ℕ} 1 0 = ap is_there q in absurd (omega arith)
       go false h q =
-          let l : length (until b t) ≡ length t = omega (arith, ltb-false m (length t) h, index_until b t, until-few b t) in
+          let l : length (until b t) ≡ length t = sym (found b t o e) ∙ ap (λ (p : Option ℕ). unwrap_or p (length t)) s in
           (sym (take_all (length (until b t)) t (omega arith)) ∙ until-take b t, behind-none b t l)
 
 -- the library's parts are the pieces

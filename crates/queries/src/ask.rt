@@ -1,9 +1,10 @@
 // What a line asks: its form, its word, its fields, and the question that it puts to `shares`.
-ghost use Rattle.std.specs.Prelude.{◌≡◌, ◌∷◌, ◌≤◌, ◌<◌, length, get_or};
+ghost use Rattle.std.specs.Prelude.{◌≡◌, ◌∷◌, ◌≤◌, ◌<◌, length, get_or, Some};
 ghost use Rattle.model.specs.Asked.{reply_to};
 ghost use Rattle.shares.specs.Paper.{paper_form};
+ghost use Rattle.queries.specs.declared.ask.Spoken.TheVariants.{Known};
 ghost use Rattle.queries.specs.Text.{line_of};
-ghost use Rattle.queries.specs.Meaning.{spoken_of, heads as headsOf, too_many, question, word_in, pieces_mean, bytes_mean};
+ghost use Rattle.queries.specs.Meaning.{spoken_of, heads as headsOf, too_many, question, fields_mean, word_in, pieces_mean, bytes_mean};
 ghost use Rattle.queries.specs.Private.{text_of, kept_at, pieces, fields_in, FieldsAre, EveryOther, Answers, Begins};
 
 use crate::answers::{Fault, Told};
@@ -186,6 +187,13 @@ fn asked(form: Form, word: Word, fields: &Fields) -> Result<Told, Fault>
     )
 }
 
+// The answer to a known word and what stands behind it. A function of its own: in `word_asked` its array would be zeroed for every word.
+fn known_asked(form: Form, word: Word, line: &[u8]) -> Result<Told, Fault>
+    ensures { text_of result ≡ fields_mean (paper_form form) (Some (Known word)) (pieces 32 line.now) }
+{
+    asked(form, word, &fields_of(word, line)?)
+}
+
 // The answer to a word and its fields; none stands behind `help`.
 fn word_asked(form: Form, word: &[u8], fields: Option<&[u8]>) -> Result<Told, Fault>
     ensures { text_of result ≡ pieces_mean (paper_form form) (word.now ∷ fields_in fields.entry) }
@@ -199,7 +207,7 @@ fn word_asked(form: Form, word: &[u8], fields: Option<&[u8]>) -> Result<Told, Fa
             None => Ok(Told::Help),
         },
         Spoken::Known(known) => match fields {
-            Some(rest) => asked(form, known, &fields_of(known, rest)?),
+            Some(rest) => known_asked(form, known, rest),
             None => Err(Fault::BadField(1)),
         },
     }

@@ -25,6 +25,8 @@ fn put_line(out: &mut [u8], text: &[u8], numbers: &[u64]) -> usize
     put_end(out, at)
 }
 
+// Inlined: the answer is then taken apart where it is made, and not stored and read back.
+#[inline(always)]
 #[tactic(auto, unfolding(crate::specs::Text::help))]
 pub(crate) fn put_answer(out: &mut [u8], answer: Result<Told, Fault>) -> usize
     requires { longest ≤ length out.old }
