@@ -513,14 +513,18 @@ fn main(rt: HostRuntime) {
     let size = size_of(number(&input[0..4]));
     let mix = Mix::from(number(&input[4..5]));
     let had = paced(size, mix, number(&input[5..15]));
-    let _ = writeln!(
-        rt.stdout(),
-        "{} {} {} {} {} {}",
+    // Each write is tried, whatever became of the one before.
+    let output = &mut rt.stdout();
+    for sum in [
         had.times,
         had.tunnels,
         had.amounts,
         had.numbers,
         had.details,
-        had.refused
-    );
+    ] {
+        let _ = write!(output, "{sum}");
+        let _ = write!(output, " ");
+    }
+    let _ = write!(output, "{}", had.refused);
+    let _ = writeln!(output);
 }

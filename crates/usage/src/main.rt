@@ -79,10 +79,11 @@ fn list<W: Write>(output: &mut W, core: &Core, id: Tunnel) -> io::Result<()> {
 // them, in rising order; and what ended the reading, as `card` writes it.
 fn tell<W: Write>(output: &mut W, core: &Core, refused: Option<BadRecord>) -> io::Result<()> {
     let status = core.status();
-    writeln!(output, "time {}", status.time.ticks())?;
-    writeln!(output, "idle {}", status.idle.ticks())?;
-    writeln!(output, "removed {}", status.removed.ticks())?;
-    writeln!(output, "tenants {}", status.vcpus)?;
+    // A newline is written with the word behind it: where a write fails, a number is the last that was written, and no newline behind it.
+    write!(output, "time {}", status.time.ticks())?;
+    write!(output, "\nidle {}", status.idle.ticks())?;
+    write!(output, "\nremoved {}", status.removed.ticks())?;
+    writeln!(output, "\ntenants {}", status.vcpus)?;
     let mut low = Tunnel::new(0);
     for _tenant in 0..status.vcpus {
         let Some(id) = core.first_from(low) else {
